@@ -26,7 +26,8 @@ CHUNK = 1 << 16
 
 
 class Text:
-    """A text in parts: bytes and how often they come, or a pattern with the numbers that are put into it."""
+    """A text in parts: bytes and how often they come, or a pattern, or a function, with the numbers that are put into
+    it."""
 
     def __init__(self, *parts):
         self.parts = parts
@@ -36,7 +37,8 @@ class Text:
             if isinstance(times, range):
                 for at in range(0, len(times), 4096):
                     some = times[at : at + 4096]
-                    yield b"".join(part.replace(b"{}", b"%d" % number) for number in some)
+                    put = part if callable(part) else lambda number: part.replace(b"{}", b"%d" % number)
+                    yield b"".join(put(number) for number in some)
             else:
                 many = max(1, CHUNK // max(1, len(part)))
                 for _ in range(times // many):
@@ -66,6 +68,8 @@ def row(what, files, words, status=0, line=""):
     ROWS.append((what, files, words.split(), status, line))
 
 
+# the longest decimal text
+NUMBER_OF_64 = b"0" * 63 + b"1"
 ONE = {"one.bil": Text((b"\7", 1)), "one.hdr": Text((b"NROWS 1\nNCOLS 1\nULXMAP 0.5\nULYMAP 0.5\n", 1))}
 SIDES = b"NROWS 1\nNCOLS 1\n"
 
@@ -86,30 +90,57 @@ def headers():
     header("a key with one value", front(b"NODATA ", b"1"))
     header("a key with many values", front(b"NODATA", b" 1"))
     header("a number without end", front(b"NROWS ", b"0"), 1, "ERROR 4: x.hdr: malformed hdr (2)")
+    header("empty lines that end with a carriage return", front(b"", b"\r"))
+    header("keys without a value", front(b"", b"NODATA\n"))
+    header("numbers of 64 bytes", front(b"", b"ULXMAP " + NUMBER_OF_64 + b"\n"))
     header("longer than its limit", Text((b"\n", 64 * MIB)), 1, "ERROR 4: x.hdr: malformed hdr (4)")
     big = Text((b"NROWS 4194304\nNCOLS 4194304\nNBANDS 256\nNBITS 32\nLAYOUT BSQ\n", 1))
     header("the largest raster over a byte", big, 1, "ERROR 4: x.bil: needs 18014398509481984 bytes, has 1")
 
 
-def cell(lines, points, records, spacing=b"0300"):
+VOLUME = b"VOL" + b" " * 77
+
+
+def label(lines, points, spacing=b"0300"):
     counts = b"%04d%04d" % (lines, points)
-    label = b"UHL10100000E0200000N" + spacing + spacing + b"NA  U" + b" " * 14 + counts + b" " * 25
-    return Text((label + b"DSIU" + b" " * 644 + b"ACC" + b" " * 2697, 1), *records)
+    return b"UHL10100000E0200000N" + spacing + spacing + b"NA  U" + b" " * 14 + counts + b" " * 25
+
+
+def cell(lines, points, records, spacing=b"0300"):
+    front = label(lines, points, spacing)
+    return Text((front + b"DSIU" + b" " * 644 + b"ACC" + b" " * 2697, 1), *records)
+
+
+def labels():
+    """Cells that are refused for what stands in front of their records."""
+    wrong = 1, "ERROR 4: x.dt2: malformed dted (2)"
+    row("cell: a label without end", {"x.dt2": filled(b"UHL1", b"9")}, "gdalinfo {}", *wrong)
+    behind = Text((VOLUME, 8), (label(0, 1), 1), (b" ", 60 * MIB))
+    row("cell: no lines, behind eight leading records", {"x.dt2": behind}, "gdalinfo {}", *wrong)
+    alone = Text((label(1, 1), 1), (b" ", 64 * MIB))
+    row("cell: one label, and spaces without end", {"x.dt2": alone}, "gdalinfo {}", 1,
+        "ERROR 4: x.dt2: malformed dted (1)")
+    volumes = Text((VOLUME, 64 * MIB // 80))
+    row("cell: leading records without end", {"x.dt2": volumes}, "gdalinfo {}", 1, "ERROR 4: x.dt2: malformed dted (1)")
 
 
 def cells():
     largest = cell(9999, 9999, ())
     row("cell: the largest, without records", {"x.dt2": largest}, "gdalinfo {}", 1,
         "ERROR 4: x.dt2: needs 200083418 bytes, has 3428")
-    volumes = Text((b"VOL" + b" " * 77, 64 * MIB // 80))
-    row("cell: leading records without end", {"x.dt2": volumes}, "gdalinfo {}", 1, "ERROR 4: x.dt2: malformed dted (1)")
     record = b"\xaa" + b"\0" * 7 + b"\0\0" * 3601
     records = (record + b"\0\0\0\xaa", 3600), (record + b"\0\0\0\xab", 1)
     sums = {"x.dt2": cell(3601, 3601, records, b"0010")}
     row("cell: the last of 3,601 sums is wrong", sums, "gdalinfo --config DTED_VERIFY_CHECKSUM YES {}", 1,
         "ERROR 4: x.dt2: malformed dted (4) at 3600")
+    record = b"\xaa" + b"\0" * 9
+    records = (record + b"\0\0\0\xaa", 9998), (record + b"\0\0\0\xab", 1)
+    sums = {"x.dt2": cell(9999, 1, records)}
+    row("cell: the last of 9,999 sums of one point is wrong", sums, "gdalinfo --config DTED_VERIFY_CHECKSUM YES {}", 1,
+        "ERROR 4: x.dt2: malformed dted (4) at 9998")
     tile = {"N00E000.hgt": Text((b"\0", 25_934_403))}
     row("tile: a byte too many", tile, "gdalinfo {}", 1, "ERROR 4: N00E000.hgt: malformed hgt (2)")
+    row("tile: a name of 255 bytes", {"N00E000" + "_" * 244 + ".hgt": Text((b"\0", 25_934_402))}, "gdalinfo {}")
 
 
 def grid(what, columns, lines, *parts, number, place=None):
@@ -135,12 +166,16 @@ def grids():
     grid("values of ten digits, too few", 4_194_304, 4_194_304, (b"1234567890 ", size // 11), number=4)
     grid("values of 64 bytes, too few", 4_194_304, 4_194_304, (b"0" * 63 + b"1 ", size // 65), number=4)
     grid("values with zeros behind the point, too few", 4_194_304, 4_194_304, (b"1.000000 ", size // 9), number=4)
+    grid("values with a sign, one too few", 4_194_304, 5, (b"-1 ", 5 * 4_194_304 - 1), number=4)
+    grid("one value with zeros behind its point without end", 1, 1, (b"0.", 1), (b"0", size), number=2, place=0)
     grid("the most rows, of one value, one too few", 1, 4_194_304, (b"0\n", 4_194_303), number=4)
     head("a key again and again", b"dx 1\n")
     head("a key with a fraction again and again", b"dx .1\n")
     head("a key with an exponent again and again", b"dx 1e0\n")
     head("a key with a zero of the greatest exponent", b"xllcorner 0e999\n")
     head("a key with two line ends", b"dx 1\r\n")
+    head("a key with a number of 64 bytes", b"xllcorner " + NUMBER_OF_64 + b"\n")
+    head("a NODATA again and again", b"NODATA_value 1e3\n")
     key = {"x.asc": Text((b"a", size))}
     row("grid: a key without end", key, "gdalinfo {}", 1, "ERROR 4: x.asc: malformed grid (2) at 0")
 
@@ -179,6 +214,13 @@ def wide_documents():
     broken("longer than its limit", Text((b" ", DOCUMENT + 1)), 6)
 
 
+def deep_documents():
+    # the root and the element around them are the first two of 64 that may stand in one another
+    deepest, front = b"<a>" * 62 + b"</a>" * 62, OPEN + b"<Metadata>"
+    document("elements as deep as they may be, again and again", filled(front, deepest, b"</Metadata>" + BAND + END))
+    broken("elements as deep as they may be, the last of which is too deep", filled(front, deepest, b"<a>" * 63), 6)
+
+
 def placed(unit):
     """Where the element stands that is not known, behind a unit as often as it fits."""
     return len(OPEN) + (DOCUMENT - len(OPEN) - len(b"<Foo/>" + END)) // len(unit) * len(unit)
@@ -199,6 +241,21 @@ def tags():
     broken("a tag of white space without end", filled(ROOT, b" "), 1, 0)
     broken("a name without end", filled(b"<", b"a"), 1, 0)
     broken("a name of 64 MiB", filled(b"<", b"a", b"/>"), 2, 0)
+    document("an attribute of entities", filled(ROOT + b' a="', b"&amp;", b'">' + BAND + END))
+    broken("an attribute of entities that are none", filled(ROOT + b' a="', b"&", b'">' + BAND + END), 1, 0)
+
+
+def alike_tags():
+    """Tags whose attributes have names that are told apart late."""
+    ending, numbers = b' a{}_and_an_end=""', range(1_000_000, 3_600_000)
+    document("a tag of 2,600,000 attributes whose names end alike", Text(
+        (ROOT, 1), (ending, numbers), (b">" + BAND + END, 1)))
+    twice = ending.replace(b"{}", b"2300000")
+    broken("a tag of 2,600,000 attributes whose names end alike, one of them twice", Text(
+        (ROOT, 1), (ending, numbers), (twice, 1), (b">" + BAND + END, 1)), 1, 0)
+    long = b" a" + b"x" * 32_000 + b"{}" + b"x" * 32_000 + b'=""'
+    document("a tag of 1,000 attributes whose long names differ in their middle", Text(
+        (ROOT, 1), (long, range(1000, 2000)), (b">" + BAND + END, 1)))
 
 
 def texts():
@@ -215,6 +272,8 @@ def texts():
     front, back = SOURCES + b"<SimpleSource><SourceFilename>", b"</SourceFilename></SimpleSource>" + SOURCES_END
     length = DOCUMENT - len(front) - len(back)
     document("a name of a source of 64 MiB", filled(front, b"a", back), 1, f"ERROR 6: limit of name passed ({length})")
+    document("a name of a source of entities", filled(front, b"&amp;", back), 1,
+             f"ERROR 6: limit of name passed ({length // 5})")
 
 
 def sources():
@@ -244,6 +303,40 @@ def sources():
     row("documents: 16, each of which names the next one 16,384 times", {**files, **ONE}, words)
 
 
+def alike(number):
+    """A source whose name has two letters for each of 18 bits of a number. Where each letter counts 81 times as much as
+    the next one, `az` and `b)` make the same number, and so do all names of such parts."""
+    name = b"".join(b"b)" if number >> bit & 1 else b"az" for bit in range(18))
+    return NUMBERED.replace(b"{}", name)
+
+
+def names_of_sources():
+    def named(name, numbers):
+        source = NUMBERED.replace(b"{}.bil", name)
+        return Text((SOURCES, 1), (source, numbers), (SOURCES_END, 1))
+
+    document("the most sources of names that fall", named(b"{}.bil", range(999_999, 999_999 - MOST, -1)))
+    document("the most sources of names that make one number", Text(
+        (SOURCES, 1), (alike, range(MOST - 1, -1, -1)), (SOURCES_END, 1)))
+    document("sources of names of 1,360 folders up", named(b"../" * 1360 + b"{}.bil", range(16_000)))
+    document("sources of names that go down and up 817 times", named(b"a/../" * 817 + b"{}.bil", range(16_000)))
+    short = "x.vrt"
+    row("name: 2,000 parts that fall away", {"./" * 2000 + short: Text((OPEN + BAND + END, 1))}, "gdalinfo {}")
+
+
+def refused_sources():
+    source = SHORTEST.replace(b">a<", b">one.bil<")
+    second = source.replace(b"</SourceFilename>", b"</SourceFilename><SourceBand>2</SourceBand>")
+    text = Text((SOURCES, 1), (source, MOST - 1), (second, 1), (SOURCES_END, 1))
+    row("document: the last of 262,144 sources lacks its band", {"x.vrt": text, **ONE},
+        "gdallocationinfo -valonly {} 0 0", 1, "ERROR 5: one.bil: no band 2")
+    names = [b"%d.vrt" % (at % 16 + 1) for at in range(1, 17)]
+    files = {f"{at}.vrt": Text((SOURCES, 1), (SHORTEST.replace(b">a<", b">" + it + b"<"), 16_384), (SOURCES_END, 1))
+             for at, it in enumerate(names, 1)}
+    row("documents: 16, the last of which names the first", files, "gdallocationinfo -valonly {} 0 0", 1,
+        "ERROR 1: 1.vrt: mosaic contains itself")
+
+
 def lists():
     words = "gdalbuildvrt -q out.vrt -input_file_list {}"
     row("list: empty lines", {"x.txt": Text((b"\n", DOCUMENT))}, words, 1, "ERROR 1: no input fits")
@@ -261,6 +354,13 @@ def lists():
     above = Text((b"../" * 1360 + b"none.bil\n", 16_000))
     up = "../" * 1360 + "none.bil"
     row("list: names of 1,360 folders up", {"x.txt": above}, words, 1, f"ERROR 4: {up}: no such file")
+    ends = Text((b"\r\n", DOCUMENT // 2))
+    row("list: empty lines with two line ends", {"x.txt": ends}, words, 1, "ERROR 1: no input fits")
+    turns = Text((b"a/../" * 817 + b"one.bil\n", 16_000), (b"none.bil\n", 1))
+    row("list: names that go down and up 817 times", {"x.txt": turns, **ONE}, words, 1,
+        "ERROR 4: none.bil: no such file")
+    slashes = Text((b"/" * 4087 + b"none.bil\n", 16_000))
+    row("list: names of 4,087 slashes", {"x.txt": slashes}, words, 1, "ERROR 4: /none.bil: no such file")
 
 
 def inputs():
@@ -269,9 +369,17 @@ def inputs():
     row("input: empty lines", {"x": lines, **ONE}, words, 1, "ERROR 6: limit of points passed (16777217)")
     row("input: one line", {"x": line, **ONE}, words, 1, "ERROR 5: input line 1 is no point")
     row("input: lines of blanks", {"x": Text((b" " * 4096 + b"\n", 16_000)), **ONE}, words)
+    ends = Text((b"\r\n", 32 * MIB))
+    row("input: empty lines with two line ends", {"x": ends, **ONE}, words, 1,
+        "ERROR 6: limit of points passed (16777217)")
+    number = b"0" * 64
+    row("input: points of numbers of 64 bytes", {"x": Text((number + b" " + number + b"\n", 500_000)), **ONE}, words)
+    row("input: points of the least exponent", {"x": Text((b"1e-999 1e-999\n", 4_700_000)), **ONE}, words)
 
 
-for group in (headers, cells, grids, wide_documents, tags, texts, sources, lists, inputs):
+FILES = headers, labels, cells, grids
+DOCUMENTS = wide_documents, deep_documents, tags, alike_tags, texts, sources, names_of_sources, refused_sources
+for group in *FILES, *DOCUMENTS, lists, inputs:
     group()
 
 

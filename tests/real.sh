@@ -80,6 +80,8 @@ expect 'a translation' 0 '' gdal_translate hills.bil copy.bil
 holds 'the copy has the same bytes' cmp -s hills.bil copy.bil
 expect 'a name with blanks, a quote and a line feed' 0 '' gdal_translate -q hills.bil $'a b"\n.bil'
 holds 'which is written' cmp -s hills.bil $'a b"\n.bil'
+expect 'a name with a line feed that is not there' 1 'ERROR 4: no' gdalinfo $'no\nfile.bil'
+holds 'which is told as it stands' test "$(cat err.txt)" = $'ERROR 4: no\nfile.bil: no such file'
 signs=$'q\'"&<>;\\.bil'
 expect 'a name with quotes and signs' 0 '' gdal_translate -q hills.bil "$signs"
 expect 'a mosaic of it' 0 '' gdalbuildvrt -q signs.vrt "$signs"
@@ -101,11 +103,28 @@ expect 'a pipe in the place of an input' 2 "$no_call" gdalbuildvrt -q none.vrt h
 expect 'a pipe in the place of the list' 2 "$no_call" gdalbuildvrt -q none.vrt -input_file_list pipe.bil
 cp hills.bil piped.bil && mkfifo piped.hdr
 expect 'a pipe in the place of the header' 2 "$no_call" gdalinfo piped.bil
+rm piped.hdr && mkdir piped.hdr
+expect 'a folder in the place of the header' 2 "$no_call" gdalinfo piped.bil
+rmdir piped.hdr && ln -s /dev/null piped.hdr
+expect 'a device in the place of the header' 2 "$no_call" gdalinfo piped.bil
 mkdir folder.asc folder.bil
 expect 'a folder in the place of the source' 2 "$no_call" gdalinfo folder.bil
 expect 'a folder in the place of a grid' 2 "$no_call" gdalinfo folder.asc
 expect 'a folder in the place of the output' 2 "$no_call" gdal_translate -q -b 1 hills.bil folder.asc
 expect 'a folder that is not there' 2 "$no_call" gdal_translate -q hills.bil none/out.bil
+ln -s pipe.bil to_a_pipe.bil && ln -s folder.bil to_a_folder.bil
+expect 'a link to a pipe in the place of the source' 2 "$no_call" gdalinfo to_a_pipe.bil
+expect 'a link to a folder in the place of the output' 2 "$no_call" gdal_translate -q hills.bil to_a_folder.bil
+holds 'which is that link still, to an empty folder' test "$(readlink to_a_folder.bil)$(ls -A folder.bil)" = folder.bil
+mkfifo on_pipe.hdr && ln -s /dev/null on_device.hdr && mkdir on_folder.hdr
+whole_or_none() { [ ! -e "$1" ] || cmp -s hills.bil "$1"; }
+for kind in pipe device folder; do
+    expect "a $kind in the place of the header of the output" 2 "$no_call" gdal_translate -q hills.bil "on_$kind.bil"
+    holds 'beside which the data are whole, or not there' whole_or_none "on_$kind.bil"
+done
+holds 'the pipe is one still' test -p on_pipe.hdr
+holds 'the device, too' test -c on_device.hdr
+holds 'and the folder, an empty one' test -z "$(ls -A on_folder.hdr)"
 
 tried=$((tried + 1))
 if [ -w /dev/full ]; then
@@ -133,6 +152,9 @@ holds 'without which nothing is made' test ! -e closed.bil
 streams 'an input that is closed' 2 "$no_input" '2>err.txt >out.txt <&-' gdallocationinfo -valonly hills.bil
 streams 'a folder in the place of the input' 2 "$no_input" '2>err.txt >out.txt <.' gdallocationinfo -valonly hills.bil
 streams 'an error stream that is closed' 1 '' '>err.txt 2>&-' gdalinfo none.bil
+streams 'a report whose input is closed' 0 '' '2>err.txt >out.txt <&-' gdalinfo hills.bil
+reports_same() { "$program" gdalinfo hills.bil | cmp -s - out.txt; }
+holds 'which is whole' reports_same
 
 # killed at odd moments: each name holds its old bytes or its new ones
 head -c 8000000 /dev/zero | tr '\0' 'x' >big.bil
@@ -188,6 +210,34 @@ for number in $(seq 65536); do echo hills.bil; done >most.txt
 expect 'as many inputs as there may be' 0 '' gdalbuildvrt -q -b 1 most.vrt -input_file_list most.txt
 expect 'one more' 1 'ERROR 6: limit of files passed (65537)' \
     gdalbuildvrt -q -b 1 more.vrt hills.bil -input_file_list most.txt
+# as many files as a walk may meet, the mosaic among them, and one more: other names of one grid, through links
+mkdir crowd && echo 'ncols 1 nrows 1 xllcorner 0 yllcorner 0 cellsize 1 7' >crowd/one.asc
+for number in $(seq 0 15); do ln -s . "crowd/$number"; done
+crowd() {
+    echo "<VRTDataset rasterXSize='1' rasterYSize='1'><VRTRasterBand>"
+    printf '<SimpleSource><SourceFilename>crowd/%s/one.asc</SourceFilename></SimpleSource>\n' \
+        {0..15}/{0..15}/{0..15}/{0..15} | sed -n "1,$1p"
+    echo '</VRTRasterBand></VRTDataset>'
+}
+crowd 65535 >crowd.vrt
+expect 'a mosaic of 65,535 files' 0 '' gdallocationinfo -valonly crowd.vrt 0 0
+holds 'whose pixel is shown' test "$(cat out.txt)" = 7
+crowd 65536 >crowd.vrt
+expect 'one file more' 1 'ERROR 6: limit of files passed (65537)' gdallocationinfo -valonly crowd.vrt 0 0
+# as many sources as the mosaics of a walk may have together, and one more: COUNT of the raster, and one of NAME
+sources() {
+    echo "<VRTDataset rasterXSize='1' rasterYSize='1'><VRTRasterBand>"
+    yes '<SimpleSource><SourceFilename>placeless.bil</SourceFilename></SimpleSource>' | head -n "$1"
+    echo "<SimpleSource><SourceFilename>$2</SourceFilename></SimpleSource></VRTRasterBand></VRTDataset>"
+}
+sources 0 placeless.bil >one_source.vrt
+sources 1 placeless.bil >two_sources.vrt
+sources 262142 one_source.vrt >sources.vrt
+expect 'two mosaics of 262,144 sources together' 0 '' gdallocationinfo -valonly sources.vrt 0 0
+holds 'whose pixel is shown' test "$(cat out.txt)" = 55
+sources 262142 two_sources.vrt >sources.vrt
+expect 'one source more' 1 'ERROR 6: limit of sources passed (262145)' gdallocationinfo -valonly sources.vrt 0 0
+rm -r crowd crowd.vrt sources.vrt
 expect 'a folder in the place of the list' 2 "$no_call" gdalbuildvrt -q none.vrt -input_file_list folder.asc
 expect 'a folder that is not there' 2 "$no_call" gdalbuildvrt -q none/out.vrt hills.bil
 if [ -w /dev/full ]; then
@@ -215,6 +265,8 @@ holds 'which makes the same files' cmp -s kept.bil synth_t2.bil
 longest=$(printf 'a%.0s' $(seq 251))
 expect 'a name of 255 bytes' 0 '' gdal_translate -q hills.bil "$longest.bil"
 holds 'which is written' cmp -s hills.bil "$longest.bil"
+expect 'a source of that name' 0 '' gdal_translate -q "$longest.bil" short.bil
+holds 'which is read' cmp -s hills.bil short.bil
 expect 'a name of 255 bytes for a mosaic' 0 '' gdalbuildvrt -q "$longest.vrt" hills.bil
 expect 'a name of 256 bytes' 2 "$no_call" gdal_translate -q hills.bil "a$longest.bil"
 ln -s /dev/null device.bil

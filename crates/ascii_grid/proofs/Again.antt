@@ -21,7 +21,7 @@ use Rattle.geotransform.specs.Types.{when_in}
 use Rattle.geotransform.specs.declared.types.PixelType.TheVariants.{Int32}
 use Rattle.geotransform.specs.declared.types.Size.{Size}
 use Rattle.geotransform.proofs.Numbers.{own}
-use Rattle.geotransform.proofs.RoundTrip.{AreDigits, digits-cons, sign_none, digits_again, IsShortWord, IsPlain, decimal_word, signed_word, short_word, whole_again, short_again}
+use Rattle.geotransform.proofs.RoundTrip.{AreDigits, digits-cons, sign_none, digits_again, IsShortWord, HasNoBlanks, decimal_word, signed_word, short_word, whole_again, short_again}
 use Rattle.ascii_grid.specs.declared.faults.GridFault.{GridFault}
 use Rattle.ascii_grid.specs.declared.faults.GridFault.TheVariants.{MissingKey, BadToken, NotInteger, Limit}
 use Rattle.ascii_grid.specs.declared.head_parts.Found.{Found}
@@ -49,17 +49,17 @@ passed_by (c ∷ cs) at = passed_by cs (next at)
 dark_of : (c : ℕ) → 32 < c → is_white c ≡ false
 dark_of c h = grind (arith, nat_tests)
 
-plain_first : (c : ℕ) (cs : List ℕ) → IsPlain (c ∷ cs) → 32 < c
+plain_first : (c : ℕ) (cs : List ℕ) → HasNoBlanks (c ∷ cs) → 32 < c
 plain_first c cs p = p 0 0 (omega arith)
 
-plain_more : (c : ℕ) (cs : List ℕ) → IsPlain (c ∷ cs) → IsPlain cs
+plain_more : (c : ℕ) (cs : List ℕ) → HasNoBlanks (c ∷ cs) → HasNoBlanks cs
 plain_more c cs p = λ k d less. p (suc k) d (omega arith)
 
-inside : (word tail : List ℕ) (at : ℕ) → IsPlain word → tokens_from true at (word ++ tail) ≡ tokens_from true (passed_by word at) tail
+inside : (word tail : List ℕ) (at : ℕ) → HasNoBlanks word → tokens_from true at (word ++ tail) ≡ tokens_from true (passed_by word at) tail
 inside [] tail at p = refl
 inside (c ∷ cs) tail at p = tok_inside c (cs ++ tail) at (dark_of c (plain_first c cs p)) ∙ inside cs tail (next at) (plain_more c cs p)
 
-taken : (word : List ℕ) (c : ℕ) (r : List ℕ) → IsPlain word → is_white c ≡ true → take_while is_dark (word ++ c ∷ r) ≡ word
+taken : (word : List ℕ) (c : ℕ) (r : List ℕ) → HasNoBlanks word → is_white c ≡ true → take_while is_dark (word ++ c ∷ r) ≡ word
 taken [] c r p w = rw (take_while-cons is_dark c r, w) refl
 taken (x ∷ xs) c r p w =
     let dark : is_white x ≡ false = dark_of x (plain_first x xs p) in

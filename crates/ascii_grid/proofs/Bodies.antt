@@ -10,7 +10,7 @@ use Rattle.ascii_grid.specs.declared.faults.GridFault.{GridFault}
 use Rattle.ascii_grid.specs.declared.faults.GridFault.TheVariants.{TooFew}
 use Rattle.lists_and_answers.specs.Answers.{◌>>=◌}
 use Rattle.ascii_grid.specs.Keys.{shape_of}
-use Rattle.ascii_grid.specs.Scan.{IsBody, IsAt, body_closed, closed}
+use Rattle.ascii_grid.specs.Scan.{IsBody, AreRowsAt, body_closed, closed}
 
 abbrev closes : Shape → Result Shape GridFault
 closes s = Ok s
@@ -92,7 +92,7 @@ in_head : (q : Result Shape GridFault) (rows : List ℕ) (s : Shape) → (q >>= 
 in_head (Ok t) rows s is some = let w : Whole t s 0 = whole_from (eqb 0 (t.w * t.h)) t s 0 refl is in absurd (omega (arith, w.count))
 in_head (Err f) rows s is some = cc
 
-pub closed_rows : (stage : Stage) (rows : List ℕ) (s : Shape) → IsAt stage rows → closed stage ≡ Ok s → 0 < s.w * s.h → length rows ≡ s.h
+pub closed_rows : (stage : Stage) (rows : List ℕ) (s : Shape) → AreRowsAt stage rows → closed stage ≡ Ok s → 0 < s.w * s.h → length rows ≡ s.h
 unfolding closed
 closed_rows (AtKey f) rows s at is some = in_head (shape_of f) rows s is some
 closed_rows (AtValue f k) rows s at is some = in_head (shape_of f) rows s is some

@@ -107,10 +107,10 @@ pub record IsBody (s : Shape) (n x : ℕ) (rows : List ℕ) : Type 0 where
   pub begun : length rows * s.w ≡ n + (if x == 0 then 0 else s.w - x)
 
 -- what a stage and the places of the rows keep
-abbrev pub IsAt : Stage → List ℕ → Type 0
-IsAt (AtKey f) rows = rows ≡ []
-IsAt (AtValue f k) rows = rows ≡ []
-IsAt (InBody s n x) rows = IsBody s n x rows
+abbrev pub AreRowsAt : Stage → List ℕ → Type 0
+AreRowsAt (AtKey f) rows = rows ≡ []
+AreRowsAt (AtValue f k) rows = rows ≡ []
+AreRowsAt (InBody s n x) rows = IsBody s n x rows
 
 -- how a scanner's fields stand for what was scanned
 abbrev pub scanned : Option GridFault → Open → Stage → List ℕ → Scanned

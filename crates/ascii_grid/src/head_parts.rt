@@ -95,11 +95,11 @@ impl Coordinate {
 
 /// A size of a pixel in ticks, above 0, as it is read from a decimal text.
 #[derive(Clone, Copy)]
-pub struct Step {
+pub struct PixelSize {
     ticks: u128,
 }
 
-impl Model for Step {
+impl Model for PixelSize {
     ghost use Rattle.std.specs.Prelude.{◌<◌, ◌*◌, ℕ};
     ghost use Rattle.geotransform.specs.Limits.{sixteenth_limit};
 
@@ -112,12 +112,12 @@ impl Model for Step {
     ghost inverse = { λ n. record { ticks = n } };
 }
 
-impl Step {
-    pub fn new(ticks: u128) -> Step
+impl PixelSize {
+    pub fn new(ticks: u128) -> PixelSize
         requires { (0 < ticks) × (ticks < 18 * sixteenth_limit) }
         ensures { result ≡ ticks }
     {
-        Step { ticks }
+        PixelSize { ticks }
     }
 
     pub fn get(self) -> u128
@@ -178,9 +178,9 @@ pub struct Found {
     pub nrows: Option<Side>,
     pub x: Option<LowerLeft>,
     pub y: Option<LowerLeft>,
-    pub cellsize: Option<Step>,
-    pub dx: Option<Step>,
-    pub dy: Option<Step>,
+    pub cellsize: Option<PixelSize>,
+    pub dx: Option<PixelSize>,
+    pub dy: Option<PixelSize>,
     pub nodata: Option<Value>,
 }
 

@@ -6,7 +6,7 @@ ghost use Rattle.ascii_grid.specs.Keys.{key_of, with_value, edge_of, steps_of, p
 ghost use Rattle.geotransform.specs.Limits.{most_side, sixteenth_limit};
 
 use crate::faults::GridFault;
-use crate::head_parts::{Found, Key, LowerLeft, Shape, Side, Step};
+use crate::head_parts::{Found, Key, LowerLeft, PixelSize, Shape, Side};
 use crate::values::{coordinate_in, nodata_in, side_in, step_in};
 use geotransform::{GeoTransform, Ticks};
 use lists_and_answers::same_letters;
@@ -120,7 +120,7 @@ pub fn with_value(found: Found, key: Key, at: u64, text: &[u8]) -> Result<Found,
 }
 
 // Half a size of a pixel.
-fn half_of(step: Step) -> i128
+fn half_of(step: PixelSize) -> i128
     ensures value { result ≡ pos (step / 2) }
     ensures bound { unsigned_abs result < 18 * sixteenth_limit }
 {
@@ -128,7 +128,7 @@ fn half_of(step: Step) -> i128
 }
 
 // The left or the lower edge of the lower left pixel.
-fn edge_of(place: LowerLeft, step: Step) -> i128
+fn edge_of(place: LowerLeft, step: PixelSize) -> i128
     ensures value { result ≡ edge_of place step }
     ensures bound { unsigned_abs result < 36 * sixteenth_limit }
 {
@@ -139,7 +139,11 @@ fn edge_of(place: LowerLeft, step: Step) -> i128
 }
 
 // The width and the height of a pixel.
-fn steps_of(cellsize: Option<Step>, dx: Option<Step>, dy: Option<Step>) -> Option<(Step, Step)>
+fn steps_of(
+    cellsize: Option<PixelSize>,
+    dx: Option<PixelSize>,
+    dy: Option<PixelSize>,
+) -> Option<(PixelSize, PixelSize)>
     ensures { result ≡ steps_of cellsize dx dy }
 {
     match (cellsize, dx, dy) {
@@ -151,7 +155,7 @@ fn steps_of(cellsize: Option<Step>, dx: Option<Step>, dy: Option<Step>) -> Optio
 
 // The height of so many rows of pixels.
 #[tactic(auto, using(crate::proofs::Products::height_small))]
-fn height_of(h: Side, step: Step) -> i128
+fn rows_height(h: Side, step: PixelSize) -> i128
     ensures value { result ≡ pos (h * step) }
     ensures bound { unsigned_abs result ≤ most_side * (18 * sixteenth_limit) }
 {
@@ -168,14 +172,14 @@ fn top_of(bottom: i128, height: i128) -> Ticks
 }
 
 // A step to the east, in ticks.
-fn eastward(step: Step) -> Ticks
+fn eastward(step: PixelSize) -> Ticks
     ensures { result ≡ pos step }
 {
     Ticks::of(step.get() as i128)
 }
 
 // A step to the south, in ticks.
-fn southward(step: Step) -> Ticks
+fn southward(step: PixelSize) -> Ticks
     ensures { result ≡ neg_ℤ (pos step) }
 {
     Ticks::of(-(step.get() as i128))
@@ -183,12 +187,12 @@ fn southward(step: Step) -> Ticks
 
 // The geotransform of so many rows of pixels of these sizes, of which the lower left one has these
 // edges.
-fn placed(left: i128, bottom: i128, steps: (Step, Step), h: Side) -> Option<GeoTransform>
+fn placed(left: i128, bottom: i128, steps: (PixelSize, PixelSize), h: Side) -> Option<GeoTransform>
     requires left { unsigned_abs left < 36 * sixteenth_limit }
     requires bottom { unsigned_abs bottom < 36 * sixteenth_limit }
     ensures { result ≡ placed left bottom steps h }
 {
-    let top = top_of(bottom, height_of(h, steps.1));
+    let top = top_of(bottom, rows_height(h, steps.1));
     GeoTransform::new(Ticks::of(left), top, eastward(steps.0), southward(steps.1))
 }
 

@@ -9,7 +9,8 @@ ghost use Rattle.ascii_grid.specs.Tokens.{longest_token};
 ghost use Rattle.ascii_grid.specs.Values.{has_value};
 ghost use Rattle.ascii_grid.specs.declared.head_parts.Stage.TheVariants.{AtKey};
 ghost use Rattle.lists_and_answers.specs.Places.{StandsAt};
-ghost use Rattle.ascii_grid.specs.Scan.{State, then_byte, fed, start, Reaches, answer_of, grid_after, IsAt, with_read};
+ghost use Rattle.ascii_grid.specs.Scan.{State, then_byte, fed, start, Reaches, answer_of, grid_after, AreRowsAt};
+ghost use Rattle.ascii_grid.specs.Scan.{with_read};
 ghost use Rattle.ascii_grid.specs.Scan.{ended, body_closed, closed, Reads, IsFaultOf, HasScanned, IsFaultIn};
 
 use crate::faults::GridFault;
@@ -38,13 +39,13 @@ pub struct Scanner {
 }
 
 impl Model for Scanner {
-    ghost use Rattle.ascii_grid.specs.Scan.{Scanned, scanned, IsAt};
+    ghost use Rattle.ascii_grid.specs.Scan.{Scanned, scanned, AreRowsAt};
 
     ghost Value = { Scanned };
 
     ghost view = { λ s. scanned s.fault s.held s.stage s.rows };
 
-    ghost invariant = { λ s. IsAt s.stage s.rows };
+    ghost invariant = { λ s. AreRowsAt s.stage s.rows };
 }
 
 impl Scanner {
@@ -386,10 +387,10 @@ impl Scanner {
 
 // Reads the token that is open, where one is.
 fn ended(stage: &mut Stage, rows: &mut Starts, held: &Open) -> Result<(), GridFault>
-    requires { IsAt stage.old rows.old }
+    requires { AreRowsAt stage.old rows.old }
     ensures read { Reaches (with_read result (record { stage = stage.new; rows = rows.new }))
         (ended (record { held = held.now; read = record { stage = stage.old; rows = rows.old } })) }
-    ensures keeps { IsAt stage.new rows.new }
+    ensures keeps { AreRowsAt stage.new rows.new }
 {
     if held.is_open() {
         add_token(stage, rows, held.begun(), held.text())

@@ -4,7 +4,7 @@ ghost use Rattle.std.specs.Prelude.{IfOk, IfErr, OnOk, OnErr, Ok, false};
 ghost use Rattle.ascii_grid.specs.Values.{has_value};
 ghost use Rattle.ascii_grid.specs.Faults.{IsMemory};
 ghost use Rattle.ascii_grid.specs.declared.head_parts.Stage.TheVariants.{AtKey, InBody};
-ghost use Rattle.ascii_grid.specs.Scan.{Reaches, IsBody, IsAt, add_token, with_rows, with_read};
+ghost use Rattle.ascii_grid.specs.Scan.{Reaches, IsBody, AreRowsAt, add_token, with_rows, with_read};
 
 use crate::faults::GridFault;
 use crate::head_parts::{Found, Shape, Stage};
@@ -123,7 +123,7 @@ fn after_key(found: Found, rows: &mut Starts, at: u64, text: &[u8]) -> Result<St
     requires { rows.old ≡ [] }
     ensures read { Reaches (with_rows result rows.new) (add_token (record { stage = AtKey found; rows = rows.old })
         (record { at = at; text = text.now })) }
-    ensures keeps { IfOk result (λ stage. IsAt stage rows.new) }
+    ensures keeps { IfOk result (λ stage. AreRowsAt stage rows.new) }
     ensures same { IfErr result (λ _. rows.new ≡ rows.old) }
 {
     if is_body_start(text) {
@@ -142,10 +142,10 @@ fn after_key(found: Found, rows: &mut Starts, at: u64, text: &[u8]) -> Result<St
 #[inline(never)]
 #[tactic(auto, unfolding(crate::specs::Scan::step))]
 fn add_any(stage: &mut Stage, rows: &mut Starts, at: u64, text: &[u8]) -> Result<(), GridFault>
-    requires { IsAt stage.old rows.old }
+    requires { AreRowsAt stage.old rows.old }
     ensures read { Reaches (with_read result (record { stage = stage.new; rows = rows.new }))
         (add_token (record { stage = stage.old; rows = rows.old }) (record { at = at; text = text.now })) }
-    ensures keeps { IsAt stage.new rows.new }
+    ensures keeps { AreRowsAt stage.new rows.new }
 {
     match stage {
         Stage::InBody(shape, n, x) => add_value(shape, n, x, rows, at, text),
@@ -168,10 +168,10 @@ pub fn add_token(
     at: u64,
     text: &[u8],
 ) -> Result<(), GridFault>
-    requires { IsAt stage.old rows.old }
+    requires { AreRowsAt stage.old rows.old }
     ensures read { Reaches (with_read result (record { stage = stage.new; rows = rows.new }))
         (add_token (record { stage = stage.old; rows = rows.old }) (record { at = at; text = text.now })) }
-    ensures keeps { IsAt stage.new rows.new }
+    ensures keeps { AreRowsAt stage.new rows.new }
 {
     if let Stage::InBody(shape, n, x) = stage {
         return add_value(shape, n, x, rows, at, text);
@@ -187,11 +187,11 @@ pub fn add_number(
     at: u64,
     text: &[u8],
 ) -> Result<(), GridFault>
-    requires at { IsAt stage.old rows.old }
+    requires at { AreRowsAt stage.old rows.old }
     requires value { has_value text.now ≡ true }
     ensures read { Reaches (with_read result (record { stage = stage.new; rows = rows.new }))
         (add_token (record { stage = stage.old; rows = rows.old }) (record { at = at; text = text.now })) }
-    ensures keeps { IsAt stage.new rows.new }
+    ensures keeps { AreRowsAt stage.new rows.new }
 {
     if let Stage::InBody(shape, n, x) = stage {
         return count_value(shape, n, x, rows, at);

@@ -13,7 +13,7 @@ ghost use Rattle.ascii_grid.specs.Values.{is_whole_end, value_in, is_value, has_
 ghost use Rattle.ascii_grid.specs.Row.{value_or_zero};
 
 use crate::faults::GridFault;
-use crate::head_parts::{Coordinate, Side, Step, Value};
+use crate::head_parts::{Coordinate, PixelSize, Side, Value};
 use crate::tokens::LONGEST_TOKEN;
 use geotransform::decimal::{digits_at, sign_at};
 use geotransform::{
@@ -95,24 +95,24 @@ pub fn coordinate_in(at: u64, text: &[u8]) -> Result<Coordinate, GridFault>
 }
 
 // A size of so many units.
-fn units_step(n: u32) -> Step
+fn units_step(n: u32) -> PixelSize
     requires some { 0 < n }
     requires small { n ≤ 2000000009 }
     ensures { result ≡ 18 * (n * 10 ^ 16) }
 {
-    Step::new(u128::from(n) * 180_000_000_000_000_000)
+    PixelSize::new(u128::from(n) * 180_000_000_000_000_000)
 }
 
 // A size of a pixel that any text writes.
 #[inline(always)]
 #[tactic(auto, unfolding(crate::specs::Values::step_in))]
-fn decimal_step(at: u64, text: &[u8]) -> Result<Step, GridFault>
+fn decimal_step(at: u64, text: &[u8]) -> Result<PixelSize, GridFault>
     ensures { result ≡ step_in at text.now }
 {
     let ticks = read_decimal(text).ok_or(GridFault::BadToken(at))?;
     let n = ticks.get();
     if n > 0 {
-        Ok(Step::new(n.unsigned_abs()))
+        Ok(PixelSize::new(n.unsigned_abs()))
     } else {
         Err(GridFault::BadToken(at))
     }
@@ -120,7 +120,7 @@ fn decimal_step(at: u64, text: &[u8]) -> Result<Step, GridFault>
 
 /// A size of a pixel.
 #[inline(always)]
-pub fn step_in(at: u64, text: &[u8]) -> Result<Step, GridFault>
+pub fn step_in(at: u64, text: &[u8]) -> Result<PixelSize, GridFault>
     ensures { result ≡ step_in at text.now }
 {
     match units_in(text) {

@@ -30,10 +30,10 @@ use Rattle.catalog.proofs.PixelLaws.{file_is_sample}
 use Rattle.catalog.proofs.Walked.{dataset_kept}
 use Rattle.band_blocks.specs.declared.key.BlockKey.{BlockKey}
 use Rattle.band_blocks.specs.declared.key.PixelKey.{PixelKey}
-use Rattle.band_blocks.specs.Contents.{driver_calls, content_calls, calls_of, most_calls, kind_of}
+use Rattle.band_blocks.specs.Contents.{driver_calls, content_calls, calls_of, most_calls, sample_type_of}
 use Rattle.band_blocks.specs.Keys.{IsKeyOf, IsPixelKeyOf}
 use Rattle.band_blocks.specs.Open.{AreGood}
-use Rattle.band_blocks.specs.Samples.{HasPlaces, HasSample, IsDirect, IsOfType, place_of, width_of}
+use Rattle.band_blocks.specs.Samples.{HasPlaces, HasSample, IsDirect, IsOfType, place_of, bytes_per_sample}
 use Rattle.band_blocks.proofs.Corners.{number_below}
 use Rattle.band_blocks.proofs.Loads.{told_by, told_kind, some_one, driver_in, file_of, long_enough, calls_within}
 use Rattle.band_blocks.proofs.Opened.{good_found, some_file}
@@ -60,7 +60,7 @@ short_side driver side len is long =
     elim t.side_is [ inl small ↦ omega arith | inr large ↦ omega arith ]
 
 -- each sample ends within a file that is long enough
-pub sample_within : (driver : DriverHead) (band x y len : ℕ) → HasSample driver band x y → HasPlaces driver → IsLongEnough driver len → place_of driver band x y + width_of driver ≤ len
+pub sample_within : (driver : DriverHead) (band x y len : ℕ) → HasSample driver band x y → HasPlaces driver → IsLongEnough driver len → place_of driver band x y + bytes_per_sample driver ≤ len
 sample_within (Raw h) band x y len there places long = let e = ends_within h band x y (record { band = there.0; column = there.1; line = there.2 }) in omega arith
 sample_within (Dted h) band x y len there places long = let e = elevation_within h x y there.0 there.1 in omega arith
 sample_within (Hgt side) band x y len there places long = let t = tile_long len side long in let e = item_within side x y there.0 there.1 in let n = t.long in omega arith
@@ -106,12 +106,12 @@ module _ (cat : List Dataset) (key : PixelKey) (d : Dataset) (valid : IsCatalog 
       told_sample driver d.head.name key.band key.x key.y (subst (λ (h : DatasetHead). key.band < length h.bands) told key_of.band) (subst (λ (h : DatasetHead). key.x < h.size.w) told key_of.column) (subst (λ (h : DatasetHead). key.y < h.size.h) told key_of.line)
 
   -- a sample of a file is of the type of its band
-  pub of_type : {E : Type 0} (driver : DriverHead) (r : Result ℤ E) → d.content ≡ File driver → IfOk r (λ v. is_in (kind_of driver) v ≡ true) → IfOk r (IsOfType d key.band)
+  pub of_type : {E : Type 0} (driver : DriverHead) (r : Result ℤ E) → d.content ≡ File driver → IfOk r (λ v. is_in (sample_type_of driver) v ≡ true) → IfOk r (IsOfType d key.band)
   of_type driver (Ok v) file range = λ kind is.
       let told = told_by cat key.dataset d driver valid key_of.at file in
       let band : key.band < length (head_told d.head.name driver).bands = subst (λ (h : DatasetHead). key.band < length h.bands) told key_of.band in
-      let same : Some (kind_of driver) ≡ Some kind = sym (ap (λ (h : DatasetHead). option_map (λ c. c.kind) (slice_get h.bands key.band)) told ∙ told_kind driver d.head.name key.band band) ∙ is in
-      subst (λ k. is_in k v ≡ true) (some_one (kind_of driver) kind same) range
+      let same : Some (sample_type_of driver) ≡ Some kind = sym (ap (λ (h : DatasetHead). option_map (λ c. c.kind) (slice_get h.bands key.band)) told ∙ told_kind driver d.head.name key.band band) ∙ is in
+      subst (λ k. is_in k v ≡ true) (some_one (sample_type_of driver) kind same) range
   of_type driver (Err e) file range = range
 
   -- an open file has as many bytes as the head of its data asks

@@ -26,11 +26,11 @@ IsDirect (File h) = HasPlaces h
 IsDirect (Mosaic d) = ⊥
 
 -- the bytes of a sample
-abbrev pub width_of : DriverHead → ℕ
-width_of (Raw h) = sample_len h.kind
-width_of (Dted h) = 2
-width_of (Hgt side) = 2
-width_of (Ascii h) = 0
+abbrev pub bytes_per_sample : DriverHead → ℕ
+bytes_per_sample (Raw h) = sample_len h.kind
+bytes_per_sample (Dted h) = 2
+bytes_per_sample (Hgt side) = 2
+bytes_per_sample (Ascii h) = 0
 
 -- the place of the sample of a band, a column and a line
 abbrev pub place_of : DriverHead → ℕ → ℕ → ℕ → ℕ

@@ -12,7 +12,7 @@ ghost use Rattle.dted_records.specs.Records.{column_of, elevation_in};
 ghost use Rattle.dted_records.specs.Written.{IsElevation, record_bytes};
 ghost use Rattle.hgt_tiles.specs.Samples.{row_bytes, row_of, line_of};
 ghost use Rattle.band_blocks.specs.Views.{cells_view};
-ghost use Rattle.band_blocks.specs.Blocks.{block_view, IsPacked, AreIn, written, run_of};
+ghost use Rattle.band_blocks.specs.Blocks.{block_view, IsPacked, AreIn, written, samples_from};
 ghost use Rattle.band_blocks.specs.Spread.{IsSpread};
 
 use crate::packed::Packed;
@@ -181,7 +181,7 @@ impl Block {
     /// Copies as many samples as `out` takes, from the place `at` on.
     pub fn copy_run(&self, at: u32, out: &mut [Sample])
         requires within { at + length out.old ≤ length self.now.samples }
-        ensures samples { out.new ≡ run_of at (length out.old) self.now.samples }
+        ensures samples { out.new ≡ samples_from at (length out.old) self.now.samples }
         ensures range { AreIn self.now.kind out.new }
     {
         let at = at as usize;
@@ -246,8 +246,8 @@ impl Block {
         requires holds { Holds head.now bytes.old count }
         requires within { at + count ≤ length self.now.samples }
         ensures bytes { (i : ℕ) → i < count → bytes_at head.now bytes.new i ≡ sample_bytes head.now
-            (get_or (run_of at count self.now.samples) i (pos 0)) }
-        ensures samples { map (sample_of head.now bytes.new) (range_with_len 0 count) ≡ run_of at count
+            (get_or (samples_from at count self.now.samples) i (pos 0)) }
+        ensures samples { map (sample_of head.now bytes.new) (range_with_len 0 count) ≡ samples_from at count
             self.now.samples }
         ensures others { (j : ℕ) → IsBetween head.now count j → get_or bytes.new j 0 ≡ get_or bytes.old j 0 }
     {

@@ -4,13 +4,13 @@ ghost use Rattle.outside.specs.Causes.{HasCause, FailsWith, one_more};
 ghost use Rattle.catalog.specs.Drivers.{IsLongEnough};
 ghost use Rattle.catalog.specs.Pixels.{sample_in, IsHeadOf};
 ghost use Rattle.catalog.specs.Places.{row_by_row};
-ghost use Rattle.band_blocks.specs.Contents.{driver_calls, kind_of, Covers, IsPart};
+ghost use Rattle.band_blocks.specs.Contents.{driver_calls, sample_type_of, Covers, IsPart};
 ghost use Rattle.band_blocks.specs.Open.{IsUnchanged};
 ghost use Rattle.geotransform.specs.Types.{is_in};
 ghost use Rattle.lists_and_answers.specs.Places.{StandsAt};
 ghost use Rattle.dted_records.specs.Places.{record_of};
 ghost use Rattle.dted_records.specs.Records.{point_of};
-ghost use Rattle.band_blocks.specs.Samples.{HasPlaces, HasSample, place_of, width_of};
+ghost use Rattle.band_blocks.specs.Samples.{HasPlaces, HasSample, place_of, bytes_per_sample};
 ghost use Rattle.geotransform.specs.Limits.{most_side};
 
 use crate::grid::read_grid_row;
@@ -40,7 +40,7 @@ pub(crate) fn read_block<F: Folder>(
     requires long { IsLongEnough driver.now (F.file_len file.old) }
     ensures told { (b : List ℕ) → F.file_bytes file.old ≡ Some b → IsHeadOf driver.now b →
         IfOk result (λ block. block.samples ≡ row_by_row (sample_in driver.now b band) rect) }
-    ensures covers { IfOk result (Covers rect (kind_of driver.now)) }
+    ensures covers { IfOk result (Covers rect (sample_type_of driver.now)) }
     ensures unchanged { IfErr result IsUnchanged }
     ensures bytes { F.file_bytes file.new ≡ F.file_bytes file.old }
     ensures len { F.file_len file.new ≡ F.file_len file.old }
@@ -59,8 +59,8 @@ pub(crate) fn read_block<F: Folder>(
 }
 
 // The bytes of a sample.
-fn width_of(driver: &DriverHead) -> usize
-    ensures width { result ≡ width_of driver.now }
+fn bytes_per_sample(driver: &DriverHead) -> usize
+    ensures width { result ≡ bytes_per_sample driver.now }
     ensures few { result ≤ 8 }
 {
     match driver {
@@ -107,11 +107,11 @@ fn place_of(driver: &DriverHead, pixel: PixelKey) -> u64
 
 // The sample that these bytes give.
 fn sample_of(driver: &DriverHead, bytes: &[u8]) -> Sample
-    requires width { length bytes.now ≡ width_of driver.now }
+    requires width { length bytes.now ≡ bytes_per_sample driver.now }
     requires places { HasPlaces driver.now }
     ensures file { (file : List ℕ) (band x y : ℕ) → StandsAt file bytes.now (place_of driver.now band x y) →
         result ≡ sample_in driver.now file band x y }
-    ensures range { is_in (kind_of driver.now) result ≡ true }
+    ensures range { is_in (sample_type_of driver.now) result ≡ true }
 {
     match driver {
         DriverHead::Raw(head) => decode_sample(head, bytes),
@@ -133,7 +133,7 @@ pub(crate) fn read_sample<F: Folder>(
     requires long { IsLongEnough driver.now (F.file_len file.old) }
     ensures told { (b : List ℕ) → F.file_bytes file.old ≡ Some b →
         IfOk result (λ v. v ≡ sample_in driver.now b pixel.band pixel.x pixel.y) }
-    ensures range { IfOk result (λ v. is_in (kind_of driver.now) v ≡ true) }
+    ensures range { IfOk result (λ v. is_in (sample_type_of driver.now) v ≡ true) }
     ensures bytes { F.file_bytes file.new ≡ F.file_bytes file.old }
     ensures len { F.file_len file.new ≡ F.file_len file.old }
     ensures names { F.names folder.new ≡ F.names folder.old }
@@ -142,7 +142,7 @@ pub(crate) fn read_sample<F: Folder>(
     ensures cause { FailsWith (F.faults folder.old) (F.faults folder.new) result }
 {
     let mut bytes = [0u8; 8];
-    let part = &mut bytes[..width_of(driver)];
+    let part = &mut bytes[..bytes_per_sample(driver)];
     folder.read_at(file, place_of(driver, pixel), part)?;
     Ok(sample_of(driver, part))
 }

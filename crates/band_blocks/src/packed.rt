@@ -10,7 +10,7 @@ ghost use Rattle.dted_records.specs.Places.{record_len, record_of};
 ghost use Rattle.dted_records.specs.Records.{column_of, elevation_in};
 ghost use Rattle.dted_records.specs.Written.{IsElevation, record_bytes};
 ghost use Rattle.hgt_tiles.specs.Samples.{row_bytes, row_of, line_of};
-ghost use Rattle.band_blocks.specs.Blocks.{block_view, IsPacked, AreIn, written, run_of};
+ghost use Rattle.band_blocks.specs.Blocks.{block_view, IsPacked, AreIn, written, samples_from};
 ghost use Rattle.band_blocks.specs.Spread.{IsSpread};
 
 use crate::cell::{
@@ -108,7 +108,7 @@ impl<T: Cell> Packed<T> {
     // Copies as many samples as `out` takes, from the place `at` on.
     pub(crate) fn copy_run(&self, at: usize, out: &mut [Sample])
         requires within { at + length out.old ≤ length self.now }
-        ensures samples { out.new ≡ run_of at (length out.old) self.now }
+        ensures samples { out.new ≡ samples_from at (length out.old) self.now }
         ensures range { AreIn T.kind out.new }
     {
         // They are read for the proof: what holds of every block is known then.
@@ -169,8 +169,8 @@ impl<T: Cell> Packed<T> {
         requires holds { Holds head.now bytes.old count }
         requires within { at + count ≤ length self.now }
         ensures bytes { (i : ℕ) → i < count → bytes_at head.now bytes.new i ≡ sample_bytes head.now
-            (get_or (run_of at count self.now) i (pos 0)) }
-        ensures samples { map (sample_of head.now bytes.new) (range_with_len 0 count) ≡ run_of at count self.now }
+            (get_or (samples_from at count self.now) i (pos 0)) }
+        ensures samples { map (sample_of head.now bytes.new) (range_with_len 0 count) ≡ samples_from at count self.now }
         ensures others { (j : ℕ) → IsBetween head.now count j → get_or bytes.new j 0 ≡ get_or bytes.old j 0 }
     {
         // They are read for the proof: what holds of every block is known then.

@@ -72,14 +72,14 @@ pub left_is : (es old : List (BlockKey × Entry)) (now before : ℕ) (o : Option
 left_is es old now before o is left same = ap (λ l. pool_view l now) left ∙ ap (λ p. pool_view (left_by p) now) (sym is) ∙ ap (pool_view (left_by (last_dirty old))) same
 
 -- the entries are those before the dirty one, the dirty one, and clean ones behind it
-pub record IsTaken (es : List (BlockKey × Entry)) (t : Taken) : Type 0 where
+pub record IsTakenOut (es : List (BlockKey × Entry)) (t : Taken) : Type 0 where
   pub clean : List (BlockKey × Entry)
   pub is : es ≡ t.before ++ (t.key, entry_of t.block true) ∷ clean
   pub all : AllClean clean
 
 abbrev Found : List (BlockKey × Entry) → Option Taken → Type 0
 Found es None = AllClean es
-Found es (Some t) = IsTaken es t
+Found es (Some t) = IsTakenOut es t
 
 found : (es : List (BlockKey × Entry)) → Found es (last_dirty es)
 found [] = tt
@@ -91,7 +91,7 @@ found (e ∷ es) = (elim (last_dirty es) as (λ o. Found es o → Found (e ∷ e
   ]) refl
 ]) (found es)
 
-pub taken_is : (es : List (BlockKey × Entry)) (t : Taken) → last_dirty es ≡ Some t → IsTaken es t
+pub taken_is : (es : List (BlockKey × Entry)) (t : Taken) → last_dirty es ≡ Some t → IsTakenOut es t
 taken_is es t h = subst (Found es) h (found es)
 
 pub all_clean : (es : List (BlockKey × Entry)) → last_dirty es ≡ None → AllClean es

@@ -2,7 +2,8 @@
 ghost use Rattle.std.specs.Prelude.{◌≡◌, IfOk, IfSome};
 ghost use Rattle.std.specs.List.{All};
 ghost use Rattle.geotransform.specs.Geo.{IsNear};
-ghost use Rattle.buildvrt.specs.Options.{IsWord, IsResolution, IsExtent, IsBandNumber};
+ghost use Rattle.buildvrt.specs.Options.{IsResolution, IsExtent, IsBandNumber};
+ghost use Rattle.catalog.specs.Nodata.{IsNodataWord};
 
 use buildvrt::{BuildOptions, Extent, Numbers, Resolution};
 use catalog::NodataWord;
@@ -59,7 +60,7 @@ fn is_known(text: &str) -> bool {
 }
 
 fn word_of(word: Option<&str>) -> Option<NodataWord>
-    ensures { IfSome result IsWord }
+    ensures { IfSome result IsNodataWord }
 {
     match word {
         None => Some(NodataWord::Absent),
@@ -184,8 +185,8 @@ struct Settings {
 fn settings_of(ask: &str) -> Option<Settings>
     ensures resolution { IfSome result (λ s. IsResolution s.resolution) }
     ensures extent { IfSome result (λ s. IfSome s.extent IsExtent) }
-    ensures source { IfSome result (λ s. IsWord s.source) }
-    ensures band { IfSome result (λ s. IsWord s.band) }
+    ensures source { IfSome result (λ s. IsNodataWord s.source) }
+    ensures band { IfSome result (λ s. IsNodataWord s.band) }
 {
     let resolution = resolution_of(ask)?;
     let extent = extent_of(ask)?;

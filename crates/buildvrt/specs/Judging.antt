@@ -5,7 +5,7 @@ use Rattle.std.specs.List.{list_all, range_with_len}
 use Rattle.std.specs.Option.{option_and_then}
 use Rattle.lists_and_answers.specs.Answers.{◌>>=◌}
 use Rattle.geotransform.specs.Geo.{Transform, is_north_up}
-use Rattle.geotransform.specs.Types.{bytes_of, is_same, is_signed}
+use Rattle.geotransform.specs.Types.{byte_count, is_same, is_signed}
 use Rattle.geotransform.specs.declared.types.PixelType.{PixelType}
 use Rattle.catalog.specs.Dataset.{band_at, band_count, DatasetHead}
 use Rattle.catalog.specs.declared.kind.BandHead.{BandHead}
@@ -55,7 +55,7 @@ taken_bands o reference = numbers_or_all o.bands (band_count reference)
 
 -- the types of samples, numbered from 2 on by their bytes and their sign, which tell them apart
 abbrev pub type_number : PixelType → ℕ
-type_number kind = if is_signed kind then 2 * bytes_of kind + 1 else 2 * bytes_of kind
+type_number kind = if is_signed kind then 2 * byte_count kind + 1 else 2 * byte_count kind
 
 -- the number of a band's type, 0 where there is no such band
 abbrev pub band_type : Option BandHead → ℕ

@@ -1,12 +1,12 @@
 -- What a mosaic is asked for.
-use Rattle.std.specs.Prelude.{ℕ, ℤ, pos, neg_ℤ, ◌<◌, ◌≤◌, ◌^◌, ◌<ℤ◌, ◌≤ℤ◌, Bool, List, Option, IfSome}
+use Rattle.std.specs.Prelude.{ℕ, ℤ, pos, ◌<◌, ◌≤◌, ◌<ℤ◌, Bool, List, Option, IfSome}
 use Rattle.std.specs.List.{All}
 use Rattle.geotransform.specs.Geo.{IsNear}
 use Rattle.buildvrt.specs.declared.options.Resolution.{Resolution}
 use Rattle.buildvrt.specs.declared.options.Resolution.TheVariants.{Highest, Lowest, Average, User}
 use Rattle.buildvrt.specs.declared.options.Extent.{Extent}
+use Rattle.catalog.specs.Nodata.{IsNodataWord}
 use Rattle.catalog.specs.declared.nodata.NodataWord.{NodataWord}
-use Rattle.catalog.specs.declared.nodata.NodataWord.TheVariants.{Absent, Remove, Number}
 use Rattle.geotransform.specs.Limits.{most_bands}
 
 -- what a mosaic of inputs is asked for, by its options
@@ -48,16 +48,10 @@ pub record IsBandNumber (n : ℕ) : Type 0 where
   pub from_one : 0 < n
   pub few : n ≤ most_bands
 
--- a number of a type of 64 bits, with or without a sign
-abbrev pub IsWord : NodataWord → Type 0
-IsWord Absent = Unit {0}
-IsWord Remove = Unit {0}
-IsWord (Number n) = (neg_ℤ (pos (2 ^ 63)) ≤ℤ n) × (n <ℤ pos (2 ^ 64))
-
 -- what the options keep
 pub record IsOptions (o : Options) : Type 0 where
   pub bands : All IsBandNumber o.bands
   pub resolution : IsResolution o.resolution
   pub extent : IfSome o.extent IsExtent
-  pub src_nodata : IsWord o.src_nodata
-  pub vrt_nodata : IsWord o.vrt_nodata
+  pub src_nodata : IsNodataWord o.src_nodata
+  pub vrt_nodata : IsNodataWord o.vrt_nodata

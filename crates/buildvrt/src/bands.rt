@@ -4,7 +4,8 @@ ghost use Rattle.std.specs.Prelude.{IfSome, OnOk, unsigned_abs};
 ghost use Rattle.std.specs.List.{All, filter_map};
 ghost use Rattle.geotransform.specs.Limits.{whole_limit};
 ghost use Rattle.lists_and_answers.specs.Answers.{Gives};
-ghost use Rattle.buildvrt.specs.Options.{IsBandNumber, IsWord};
+ghost use Rattle.buildvrt.specs.Options.{IsBandNumber};
+ghost use Rattle.catalog.specs.Nodata.{IsNodataWord};
 ghost use Rattle.buildvrt.specs.Judging.{has_bands, band_of, taken_bands};
 ghost use Rattle.buildvrt.specs.Rectangles.{IsPatch};
 ghost use Rattle.buildvrt.specs.Mosaic.{IsMemory};
@@ -29,7 +30,7 @@ const MOST_SOURCES: usize = catalog::MOST_SOURCES as usize;
 
 // The NODATA of a source, from that of the input's band.
 fn source_nodata(word: NodataWord, own: Option<Sample>) -> Option<Sample>
-    requires word { IsWord word }
+    requires word { IsNodataWord word }
     requires own { IfSome own (λ n. unsigned_abs n < whole_limit) }
     ensures nodata { result ≡ source_nodata word own }
     ensures rules { IfSome result (λ n. unsigned_abs n < whole_limit) }

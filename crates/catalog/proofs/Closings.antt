@@ -13,7 +13,7 @@ use Rattle.catalog.specs.Mosaics.{sources_of}
 use Rattle.catalog.specs.Outcomes.{IsOutside}
 use Rattle.catalog.specs.Heads.{kind_in}
 use Rattle.catalog.specs.Walk.{Met, number_of, sources_in, visit, visit_sources}
-use Rattle.catalog.specs.Linked.{State, met_of, IsLinked, IsLink, IsLinkOf, IsMosaicAt, IsPath, IsMember, Each, AreRows, Grows, Goes, most, pushed, closed}
+use Rattle.catalog.specs.Linked.{State, met_of, IsLinked, IsLink, IsLinkOf, IsMosaicAt, IsPath, IsMember, Each, AreRows, Grows, Goes, most, pushed, met_whole}
 use Rattle.catalog.specs.Walking.{Seen, Visits, IsOpened, Passes, ReachesRows}
 use Rattle.catalog.proofs.States.{grows_trans, grows_pushed, grows_closed, goes_mosaic, stays_open, path_pushed, pushed_at, set_same}
 use Rattle.catalog.proofs.Walking.{failed, fault_is, ok≢err}
@@ -118,15 +118,15 @@ module _ (verify : Bool) (room : ℕ) (name : List ℕ) (a b c : Seen) (old mid 
         shallow = (let x = rows_low in omega arith);
       }
 
-      goes : Goes 0 old (closed new id last)
+      goes : Goes 0 old (met_whole new id last)
       goes = goes_mosaic old new o.dataset id last o.first linked_first unmet
           (subst (λ (n : ℕ). Goes n (pushed old o.dataset None) new) (sym (ap (λ c. length (sources_in c)) o.content)) (subst (λ (s : State). Goes (length (sources_of o.document)) s new) o.is_pushed p.walks.goes))
           at waits link
 
-      closes : Visits verify room name a c old (closed new id last) (Ok id)
+      closes : Visits verify room name a c old (met_whole new id last) (Ok id)
       closes = record {
         walks = record {
-          grows = grows_trans old mid (closed new id last) grows_first (grows_trans mid new (closed new id last) p.walks.grows (grows_closed new id last waits));
+          grows = grows_trans old mid (met_whole new id last) grows_first (grows_trans mid new (met_whole new id last) p.walks.grows (grows_closed new id last waits));
           goes = goes;
           read = λ m told walked. p.walks.read m (o.names ∙ told) (o.read m told walked);
           known = λ n r. absurd (ok≢err r);
@@ -146,5 +146,5 @@ module _ (verify : Bool) (room : ℕ) (name : List ℕ) (a b c : Seen) (old mid 
       }
 
       -- its sources were gone through
-      pub visits_closed : (last_state : State) → last_state ≡ closed new id (record { height = suc (most new.links (flattened rows)); members = rows }) → Visits verify room name a c old last_state (Ok id)
+      pub visits_closed : (last_state : State) → last_state ≡ met_whole new id (record { height = suc (most new.links (flattened rows)); members = rows }) → Visits verify room name a c old last_state (Ok id)
       visits_closed last_state is = subst (λ (s : State). Visits verify room name a c old s (Ok id)) (sym is) closes

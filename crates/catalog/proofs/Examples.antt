@@ -4,7 +4,7 @@ use Rattle.std.specs.Prelude.{codes}
 use Rattle.vrt_profile.specs.Values.{DocumentValue}
 use Rattle.ascii_grid.specs.Grid as ascii
 use Rattle.dted_records.specs.Head as dted
-use Rattle.outside.specs.Names.{extension_of, kind_of, ending_of, last_part}
+use Rattle.outside.specs.Names.{extension_of, extension_of_ending, ending_of, last_part}
 use Rattle.catalog.specs.declared.kind.Kind.TheVariants.{Raw}
 use Rattle.catalog.specs.declared.driver.DriverHead.TheVariants as drivers
 use Rattle.catalog.specs.declared.driver.Content.TheVariants.{File, Mosaic}
@@ -16,17 +16,17 @@ use Rattle.catalog.specs.Readings.{calls_to_open, calls_to_open_all}
 
 -- an ending of raw data, in any case
 bil_is_raw : kind_in (codes "a/b.BIL") ≡ Ok Raw
-unfolding extension_of kind_of ending_of last_part
+unfolding extension_of extension_of_ending ending_of last_part
 bil_is_raw = refl
 
 -- an ending of no kind
 tif_is_unknown : kind_in (codes "a.tif") ≡ Err (NotRecognized (codes "a.tif"))
-unfolding extension_of kind_of ending_of last_part
+unfolding extension_of extension_of_ending ending_of last_part
 tif_is_unknown = refl
 
 -- a point before the last slash is none
 folder_is_unknown : kind_in (codes "a.bil/b") ≡ Err (NotRecognized (codes "a.bil/b"))
-unfolding extension_of kind_of ending_of last_part
+unfolding extension_of extension_of_ending ending_of last_part
 folder_is_unknown = refl
 
 -- a grid of 70,000 bytes is read in two pieces

@@ -21,7 +21,7 @@ pub of_item : {T : Type 0} (P : T → Type 0) (xs : List T) (id : ℕ) (x : T) �
 of_item P xs id x all at = subst P (get_or_from_slice_get xs id x x at) (all id x (slice_get_within xs id x at))
 
 -- what stands at the number of a name
-pub record IsAt (cat : List Dataset) (name : List ℕ) (id : ℕ) : Type 0 where
+pub record IsNamedAt (cat : List Dataset) (name : List ℕ) (id : ℕ) : Type 0 where
   pub dataset : Dataset
   pub at : slice_get cat id ≡ Some dataset
   pub named : dataset.head.name ≡ name
@@ -29,7 +29,7 @@ pub record IsAt (cat : List Dataset) (name : List ℕ) (id : ℕ) : Type 0 where
 pub record IsFrom (at : ℕ) (cat : List Dataset) (name : List ℕ) (id : ℕ) : Type 0 where
   pub place : ℕ
   pub counted : id ≡ at + place
-  pub there : IsAt cat name place
+  pub there : IsNamedAt cat name place
 
 from_step : (at : ℕ) (c : Dataset) (cs : List Dataset) (name : List ℕ) (id : ℕ) (b : Bool) → bytes_eq c.head.name name ≡ b → cond b (Some at) (number_from (suc at) cs name) ≡ Some id
     → (number_from (suc at) cs name ≡ Some id → IsFrom (suc at) cs name id) → IsFrom at (c ∷ cs) name id
@@ -45,11 +45,11 @@ found_from : (at : ℕ) (cat : List Dataset) (name : List ℕ) (id : ℕ) → nu
 found_from at [] name id is = absurd (none≢some is)
 found_from at (c ∷ cs) name id is = from_step at c cs name id (bytes_eq c.head.name name) refl is (λ h. found_from (suc at) cs name id h)
 
-pub found : (cat : List Dataset) (name : List ℕ) (id : ℕ) → number_of cat name ≡ Some id → IsAt cat name id
+pub found : (cat : List Dataset) (name : List ℕ) (id : ℕ) → number_of cat name ≡ Some id → IsNamedAt cat name id
 found cat name id is =
     let f = found_from 0 cat name id is in
     let same : f.place ≡ id = (let e : id ≡ 0 + f.place = f.counted in omega arith) in
-    subst (λ k. IsAt cat name k) same f.there
+    subst (λ k. IsNamedAt cat name k) same f.there
 
 -- the dataset of a name whose number is known
 pub named_at : (cat : List Dataset) (name : List ℕ) (id : ℕ) (d : Dataset) → number_of cat name ≡ Some id → slice_get cat id ≡ Some d → dataset_named cat name ≡ Some d

@@ -23,7 +23,7 @@ use Rattle.catalog.proofs.Headers.{never_unknown, owns_fault}
 use Rattle.catalog.specs.Walk.{number_of, room_for, sources_in, visit, visit_sources, IsDataset, IsWalked}
 use Rattle.catalog.specs.Readings.{calls_to_open}
 use Rattle.catalog.specs.Linked.{State, met_of, IsLinked, IsLink, IsLinkOf, IsPath, IsLow, Grows, pushed}
-use Rattle.catalog.specs.Walking.{Seen, IsPlain, WalksOn, ReadsOnce, Visits, IsOpened}
+use Rattle.catalog.specs.Walking.{Seen, IsOrdinaryFault, WalksOn, ReadsOnce, Visits, IsOpened}
 use Rattle.catalog.proofs.States.{grows_refl, grows_pushed, goes_file, linked_pushed, open_unknown, pushed_at, last_item}
 use Rattle.catalog.proofs.Walking.{failed, fault_is, ok≢err, plain_known, walks_none, walks_plain}
 use Rattle.catalog.proofs.Visits.{IsFirst, visit_unknown, visit_deep, visit_limit, visit_unread, visit_file, visit_mosaic}
@@ -47,7 +47,7 @@ not_met o none is = true≢false (sym is ∙ ap is_some none)
 
 module _ (verify : Bool) (room : ℕ) (name : List ℕ) where
   -- a plain refusal of a name that tells its kind
-  pub visits_plain : (a : Seen) (st : State) (kind : Kind) (f : WalkFault) → kind_in name ≡ Ok kind → IsPlain f → ((m : Files) (path : List (List ℕ)) → IsPath st path → IsOutside f ⊎ (visit m verify room path (met_of st) name ≡ Err f)) → Visits verify room name a a st st (Err f)
+  pub visits_plain : (a : Seen) (st : State) (kind : Kind) (f : WalkFault) → kind_in name ≡ Ok kind → IsOrdinaryFault f → ((m : Files) (path : List (List ℕ)) → IsPath st path → IsOutside f ⊎ (visit m verify room path (met_of st) name ≡ Err f)) → Visits verify room name a a st st (Err f)
   visits_plain a st kind f is plain told =
       let walks : WalksOn 0 a a st st (failed ℕ f) = walks_plain ℕ 0 a st st f (grows_refl st) plain in
       record {
@@ -76,8 +76,8 @@ module _ (verify : Bool) (room : ℕ) (name : List ℕ) where
     unknown = record { always = λ fault e. inr (ap Err free); only = walks.known; file = λ k n e other r. plain_known f n plain (fault_is ℕ f (NotRecognized n) r) };
   }
     where
-      plain : IsPlain f
-      plain = subst IsPlain (sym free) tt
+      plain : IsOrdinaryFault f
+      plain = subst IsOrdinaryFault (sym free) tt
 
       walks : WalksOn 0 a a st st (failed ℕ f)
       walks = walks_plain ℕ 0 a st st f (grows_refl st) plain
@@ -202,8 +202,8 @@ module _ (verify : Bool) (room : ℕ) (name : List ℕ) where
         };
       }
         where
-          plain : IsPlain f
-          plain = subst IsPlain (sym free) tt
+          plain : IsOrdinaryFault f
+          plain = subst IsOrdinaryFault (sym free) tt
 
           malformed : (k : List ℕ) (y : Bad) → Memory ≡ Malformed k y → ⊥
           malformed k y e = cc

@@ -13,17 +13,17 @@ use Rattle.catalog.specs.Drivers.{Dataset}
 use Rattle.catalog.specs.Outcomes.{IsOutside}
 use Rattle.catalog.specs.Walk.{Met, visit, walked, met_in, IsDataset, IsNested}
 use Rattle.catalog.specs.Links.{source_at, member_at, height_of}
-use Rattle.catalog.specs.Linked.{State, met_of, height_at, height_in, IsMet, IsWhole, Grows, cut_to}
+use Rattle.catalog.specs.Linked.{State, met_of, height_at, height_in, IsMet, IsWholeWalk, Grows, cut_to}
 use Rattle.catalog.specs.Walking.{Seen, Visits}
 use Rattle.catalog.proofs.Found.{some_is}
 use Rattle.catalog.proofs.States.{front_stays, item_there}
 use Rattle.catalog.proofs.Members.{IsKept, kept, height_known, falls_below}
 use Rattle.catalog.proofs.Wholes.{whole_path, cut_back}
 
-whole_met : (st : State) → IsWhole st → met_of st ≡ met_in st.datasets
+whole_met : (st : State) → IsWholeWalk st → met_of st ≡ met_in st.datasets
 whole_met st whole = λ i. record { datasets = st.datasets; sources = whole.counted i }
 
-module _ (verify : Bool) (name : List ℕ) (a b : Seen) (old new : State) (whole : IsWhole old) where
+module _ (verify : Bool) (name : List ℕ) (a b : Seen) (old new : State) (whole : IsWholeWalk old) where
   pub open_told : (id : ℕ) (m : Files) → Visits verify 16 name a b old new (Ok id) → a.names ≡ Some m → walked m verify old.datasets name ≡ Ok new.datasets
   unfolding walked
   open_told id m v told =
@@ -46,7 +46,7 @@ pub goes_on : (xs ys : List Dataset) → take (length xs) ys ≡ xs → (more : 
 goes_on xs ys front = (drop (length xs) ys, sym (take-append-drop (length xs) ys) ∙ ap (λ (zs : List Dataset). zs ++ drop (length xs) ys) front)
 
 -- a refusal leaves what was met before
-pub cut_same : (old new last : State) (count sources : ℕ) → IsWhole old → Grows old new → count ≡ length old.datasets → sources ≡ old.sources → last ≡ cut_to new count sources → last ≡ old
+pub cut_same : (old new last : State) (count sources : ℕ) → IsWholeWalk old → Grows old new → count ≡ length old.datasets → sources ≡ old.sources → last ≡ cut_to new count sources → last ≡ old
 cut_same old new last count sources whole grows counted more is =
     is ∙ ap (λ n. cut_to new n sources) counted ∙ ap (λ n. cut_to new (length old.datasets) n) more ∙ cut_back old new whole grows
 
@@ -58,11 +58,11 @@ none≢some e = cc
 empty : State
 empty = record { datasets = []; links = []; sources = 0 }
 
-pub whole_empty : (st : State) → st ≡ record { datasets = []; links = []; sources = 0 } → IsWhole st
+pub whole_empty : (st : State) → st ≡ record { datasets = []; links = []; sources = 0 } → IsWholeWalk st
 unfolding empty
-whole_empty st is = subst IsWhole (sym is) whole
+whole_empty st is = subst IsWholeWalk (sym is) whole
   where
-    whole : IsWhole empty
+    whole : IsWholeWalk empty
     whole = record {
       linked = record { long = refl; each = All-nil IsDataset; few = omega arith; sources = omega arith; apart = λ id d at. absurd (none≢some at); whole = λ id d l at whole. absurd (none≢some at) };
       catalog = record { each = All-nil IsDataset; few = omega arith; sources = omega arith; apart = λ id d at. absurd (none≢some at); nested = All-nil (λ d. IsNested 16 [] d) };
@@ -78,22 +78,22 @@ pub record IsKnownAt (st : State) (id : ℕ) (link : Option Link) : Type 0 where
   pub link_is : link ≡ Some value
   pub met : IsMet st id dataset value
 
-pub known_at : (st : State) → IsWhole st → (id : ℕ) (link : Option Link) → id < length st.datasets → slice_get st.links id ≡ Some link → IsKnownAt st id link
+pub known_at : (st : State) → IsWholeWalk st → (id : ℕ) (link : Option Link) → id < length st.datasets → slice_get st.links id ≡ Some link → IsKnownAt st id link
 known_at st whole id link within is =
     let d = item_there st.datasets id within in
     let l = whole.closed id link is in
     record { dataset = d.0; value = l.0; link_is = l.1; met = record { at = d.1; whole = is ∙ ap Some l.1 } }
 
-pub links_within : (st : State) → IsWhole st → (id : ℕ) → id < length st.datasets → id < length st.links
+pub links_within : (st : State) → IsWholeWalk st → (id : ℕ) → id < length st.datasets → id < length st.links
 links_within st whole id within = omega (arith, whole.linked.long)
 
-pub height_told : (st : State) → IsWhole st → (id height : ℕ) → id < length st.datasets → height ≡ height_at st.links id → option_map (λ d. height_of st.datasets d) (slice_get st.datasets id) ≡ Some height
+pub height_told : (st : State) → IsWholeWalk st → (id height : ℕ) → id < length st.datasets → height ≡ height_at st.links id → option_map (λ d. height_of st.datasets d) (slice_get st.datasets id) ≡ Some height
 height_told st whole id height within is =
     let there = item_there st.links id (links_within st whole id within) in
     let k = known_at st whole id there.0 within there.1 in
     ap (option_map (λ d. height_of st.datasets d)) k.met.at ∙ ap Some (height_known st whole.linked id k.dataset k.value k.met ∙ sym (is ∙ ap height_in k.met.whole))
 
-pub height_low : (st : State) → IsWhole st → (id height : ℕ) → id < length st.datasets → height ≡ height_at st.links id → height ≤ 16
+pub height_low : (st : State) → IsWholeWalk st → (id height : ℕ) → id < length st.datasets → height ≡ height_at st.links id → height ≤ 16
 height_low st whole id height within is =
     let there = item_there st.links id (links_within st whole id within) in
     let k = known_at st whole id there.0 within there.1 in
@@ -125,14 +125,14 @@ pub record IsKeptAt (st : State) (id band source : ℕ) (l : Link) : Type 0 wher
   pub met : IsMet st id dataset l
   pub fits : IsKept st dataset l band source
 
-pub kept_at : (st : State) → IsWhole st → (id band source : ℕ) (l : Link) → HasSourceAt st.datasets id band source → slice_get st.links id ≡ Some (Some l) → IsKeptAt st id band source l
+pub kept_at : (st : State) → IsWholeWalk st → (id band source : ℕ) (l : Link) → HasSourceAt st.datasets id band source → slice_get st.links id ≡ Some (Some l) → IsKeptAt st id band source l
 kept_at st whole id band source l there at =
     let d = item_there st.datasets id (source_within st id band source there) in
     let s = source_of st id band source d.0 d.1 there in
     let met : IsMet st id d.0 l = record { at = d.1; whole = at } in
     record { dataset = d.0; met = met; fits = kept st whole.linked id d.0 l band source s.0 met s.1 }
 
-module _ (st : State) (whole : IsWhole st) (id band source : ℕ) (l : Link) (there : HasSourceAt st.datasets id band source) (at : slice_get st.links id ≡ Some (Some l)) where
+module _ (st : State) (whole : IsWholeWalk st) (id band source : ℕ) (l : Link) (there : HasSourceAt st.datasets id band source) (at : slice_get st.links id ≡ Some (Some l)) where
   k : IsKeptAt st id band source l
   k = kept_at st whole id band source l there at
 

@@ -23,7 +23,7 @@ use Rattle.catalog.specs.Outcomes.{IsOutside, IsMemory}
 use Rattle.catalog.specs.Heads.{resolved}
 use Rattle.catalog.specs.Walk.{Met, dataset_named, bands_of, band_named, is_narrow_band, IsWalked, one_more_source, unless_no_band, unless_no_samples, unless_wide, visit, visit_source, visit_sources}
 use Rattle.catalog.specs.Linked.{State, met_of, IsLinked, IsPath, IsMember, Each, Grows, Goes, one_counted, most, height_at, height_in, IsMosaicAt, HasBand, HasSource}
-use Rattle.catalog.specs.Walking.{Seen, IsPlain, WalksOn, ReadsOnce, Visits, Passes, Names, Reaches, ReachesRows}
+use Rattle.catalog.specs.Walking.{Seen, IsOrdinaryFault, WalksOn, ReadsOnce, Visits, Passes, Names, Reaches, ReachesRows}
 use Rattle.catalog.proofs.Found.{each_more, each_map, member_stays, most_stays, flat_rows, rows_stay, named_at}
 use Rattle.catalog.proofs.Rows.{most_append}
 use Rattle.catalog.proofs.Loops.{item_more, item_split, from_more}
@@ -109,14 +109,14 @@ counted_source old new id band source is w = record {
   source_at = w.source_at;
 }
 
-pub names_uncounted : (base : List ℕ) (s : SourceValue) (old new : State) (f : WalkFault) → IsMemory f ⊎ (one_more_source old.sources ≡ Err f) → IsPlain f → new ≡ old → Names base s old new (Err f)
+pub names_uncounted : (base : List ℕ) (s : SourceValue) (old new : State) (f : WalkFault) → IsMemory f ⊎ (one_more_source old.sources ≡ Err f) → IsOrdinaryFault f → new ≡ old → Names base s old new (Err f)
 names_uncounted base s old new f told plain same = record { told = by_told told; band = tt; kept = tt; grows = subst (λ (st : State). Grows old st) (sym same) (grows_refl old); counted = tt; plain = plain }
   where
     by_told : IsMemory f ⊎ (one_more_source old.sources ≡ Err f) → IsMemory f ⊎ ((one_more_source old.sources >>= λ c. resolved base s) ≡ Err f)
     by_told (inl free) = inl free
     by_told (inr is) = inr (ap (λ r. r >>= λ c. resolved base s) is)
 
-pub names_resolved : (base : List ℕ) (s : SourceValue) (old new : State) (r : Result Wanted WalkFault) → one_more_source old.sources ≡ Ok tt → new ≡ one_counted old → Gives IsMemory (λ (w : Wanted). w.name) r (resolved base s) → IfOk r (λ (w : Wanted). w.band ≡ s.band) → IfOk r (λ (w : Wanted). w.plain ≡ is_plain s) → IfErr r IsPlain → Names base s old new r
+pub names_resolved : (base : List ℕ) (s : SourceValue) (old new : State) (r : Result Wanted WalkFault) → one_more_source old.sources ≡ Ok tt → new ≡ one_counted old → Gives IsMemory (λ (w : Wanted). w.name) r (resolved base s) → IfOk r (λ (w : Wanted). w.band ≡ s.band) → IfOk r (λ (w : Wanted). w.plain ≡ is_plain s) → IfErr r IsOrdinaryFault → Names base s old new r
 names_resolved base s old new r room counted told band kept plain = record {
   told = subst (λ x. Gives IsMemory (λ (w : Wanted). w.name) r x) (sym (ap (λ x. x >>= λ c. resolved base s) room)) told;
   band = band;
@@ -190,7 +190,7 @@ module _ (verify : Bool) (room : ℕ) (base : List ℕ) (s : SourceValue) where
           ∙ ap (λ k. unless_no_samples new.datasets base w.name k (is_plain s) >>= λ there. Ok (met_of new)) (sym n.band)
           ∙ ap (λ p. unless_no_samples new.datasets base w.name w.band p >>= λ there. Ok (met_of new)) (sym n.kept)
 
-      pub source_bandless : (T : Type 0) (P : T → Type 0) (f : WalkFault) → IsPlain f → IsMemory f ⊎ (unless_no_samples new.datasets base w.name w.band w.plain ≡ Err f) → Passes verify room base (s ∷ []) a b old new P (Err f)
+      pub source_bandless : (T : Type 0) (P : T → Type 0) (f : WalkFault) → IsOrdinaryFault f → IsMemory f ⊎ (unless_no_samples new.datasets base w.name w.band w.plain ≡ Err f) → Passes verify room base (s ∷ []) a b old new P (Err f)
       source_bandless T P f plain refused = record {
         walks = walks_then ℕ T 1 0 1 a b b old new new id (Err f) (omega arith) visited_walks (walks_plain T 0 b new new f (grows_refl new) plain);
         told = λ m told path is. subst (λ (r : Result Met WalkFault). IsOutside f ⊎ (r ≡ Err f)) (sym (banded_as m told path is)) (still_refused (unless_no_samples new.datasets base w.name w.band w.plain) (λ there. Ok (met_of new)) f (by_cause refused));

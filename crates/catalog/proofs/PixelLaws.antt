@@ -15,7 +15,7 @@ use Rattle.catalog.specs.Mosaics.{source_name}
 use Rattle.catalog.specs.Heads.{dataset_in}
 use Rattle.catalog.specs.Walk.{number_from, number_of, dataset_named, sources_in, HasMember, IsNested, IsCatalog, IsWalked}
 use Rattle.catalog.specs.Links.{member_of, source_at, member_at}
-use Rattle.catalog.specs.Pixels.{size_of, shown, band_pixel, content_pixel, pixel_step, pixel_within, found_in_folder, told, file_pixel, pixel_of, pixel_of_name, member_size, member_pixel, IsTaken, AreOfMembers}
+use Rattle.catalog.specs.Pixels.{size_of, shown, band_pixel, content_pixel, pixel_step, pixel_within, found_in_folder, told, file_pixel, pixel_of, pixel_of_name, member_size, member_pixel, TakesMember, AreOfMembers}
 use Rattle.catalog.specs.Places.{block_rect_of, row_by_row}
 use Rattle.catalog.specs.Blocks.{block_by, block_pixels}
 use Rattle.catalog.proofs.Pixels.{Finds, same_pixels, mosaic_same, given_same, shown_is, none≢some, same_item, item, part, when_ok}
@@ -139,7 +139,7 @@ member_named cat base s P t n found = ap (option_and_then (number_of cat)) (when
 member_is : (cat : List Dataset) (d : Dataset) (band source : ℕ) (s : SourceValue) (P : Dataset → Type 0) (t : HasMember P cat d.head.name s) (n : ℕ) → source_at d band source ≡ Some s → number_of cat t.name ≡ Some n → member_at cat d band source ≡ Some n
 member_is cat d band source s P t n is found = ap (λ (o : Option SourceValue). o >>= λ s. member_of cat d.head.name s) is ∙ member_named cat d.head.name s P t n found
 
-pub has_member : (cat : List Dataset) (id band source : ℕ) (d : Dataset) (s : SourceValue) → IsCatalog cat → slice_get cat id ≡ Some d → source_at d band source ≡ Some s → IsTaken cat d band source s
+pub has_member : (cat : List Dataset) (id band source : ℕ) (d : Dataset) (s : SourceValue) → IsCatalog cat → slice_get cat id ≡ Some d → source_at d band source ≡ Some s → TakesMember cat d band source s
 has_member cat id band source d s is at stands =
     let P = λ (x : Dataset). IsNested 15 cat x in
     let t = source_member cat d band source s (nested cat id d is at) stands in

@@ -12,7 +12,7 @@ use Rattle.geotransform.specs.Types.{type_named}
 use Rattle.geotransform.specs.Decimal.{whole_of, parts_of}
 use Rattle.geotransform.specs.declared.types.PixelType.TheVariants.{Int16}
 use Rattle.outside.specs.Outside.{Files}
-use Rattle.outside.specs.Names.{folder_part, extension_of, kind_of, ending_of, last_part, header_of}
+use Rattle.outside.specs.Names.{folder_part, extension_of, extension_of_ending, ending_of, last_part, header_of}
 use Rattle.outside.specs.Paths.{normal}
 use Rattle.esri_hdr.specs.Head.{Head, esri_head, head_of, shape_of, rows_of, geo_of, place_in, step_in, geo_in, nodata_in}
 use Rattle.esri_hdr.specs.Lines.{entry_at}
@@ -136,7 +136,7 @@ abbrev header_text : List ℕ
 header_text = codes "NROWS 1" ++ 10 ∷ codes "NCOLS 3" ++ 10 ∷ codes "NBITS 16" ++ 10 ∷ codes "PIXELTYPE SIGNEDINT"
 
 header_read : esri_head header_text ≡ Ok (header 3)
-unfolding esri_head head_of shape_of rows_of geo_of place_in step_in geo_in nodata_in entry_at side_in bands_in bits_in big_endian_in layout_in skip_in signed_in values.kind_of row_in band_row_in total_row_in gap_in
+unfolding esri_head head_of shape_of rows_of geo_of place_in step_in geo_in nodata_in entry_at side_in bands_in bits_in big_endian_in layout_in skip_in signed_in values.type_of_bits row_in band_row_in total_row_in gap_in
 header_read = refl
 
 abbrev text_of : List ℕ → List ℕ
@@ -173,23 +173,23 @@ record Holds (m : Files) : Type 0 where
   third : get m (codes "o.vrt") ≡ Some (simple_text (codes "n.vrt"))
 
 a_found : (m : Files) → Holds m → dataset_in m false (codes "a.bil") ≡ Ok (file 3 (codes "a.bil"))
-unfolding dataset_in dataset_by raw_in header_in extension_of kind_of ending_of last_part header_of
+unfolding dataset_in dataset_by raw_in header_in extension_of extension_of_ending ending_of last_part header_of
 a_found m h = rw h.samples.a (rw h.a (rw header_read refl))
 
 b_found : (m : Files) → Holds m → dataset_in m false (codes "b.bil") ≡ Ok (file 3 (codes "b.bil"))
-unfolding dataset_in dataset_by raw_in header_in extension_of kind_of ending_of last_part header_of
+unfolding dataset_in dataset_by raw_in header_in extension_of extension_of_ending ending_of last_part header_of
 b_found m h = rw h.samples.b (rw h.b (rw header_read refl))
 
 m_found : (m : Files) → Holds m → dataset_in m false (codes "m.vrt") ≡ Ok (mosaic (length complex_text) (codes "m.vrt") (Some (negsuc 0)) (source true (Some (pos 0)) (codes "a.bil") ∷ source true (Some (pos 0)) (codes "b.bil") ∷ []))
-unfolding dataset_in dataset_by vrt_in extension_of kind_of ending_of last_part
+unfolding dataset_in dataset_by vrt_in extension_of extension_of_ending ending_of last_part
 m_found m h = rw h.first (rw m_read refl)
 
 n_found : (m : Files) → Holds m → dataset_in m false (codes "n.vrt") ≡ Ok (mosaic (length (simple_text (codes "m.vrt"))) (codes "n.vrt") None (source false None (codes "m.vrt") ∷ []))
-unfolding dataset_in dataset_by vrt_in extension_of kind_of ending_of last_part
+unfolding dataset_in dataset_by vrt_in extension_of extension_of_ending ending_of last_part
 n_found m h = rw h.second (rw n_read refl)
 
 o_found : (m : Files) → Holds m → dataset_in m false (codes "o.vrt") ≡ Ok (mosaic (length (simple_text (codes "n.vrt"))) (codes "o.vrt") None (source false None (codes "n.vrt") ∷ []))
-unfolding dataset_in dataset_by vrt_in extension_of kind_of ending_of last_part
+unfolding dataset_in dataset_by vrt_in extension_of extension_of_ending ending_of last_part
 o_found m h = rw h.third (rw o_read refl)
 
 -- the bytes of the files alone tell the pixels through three mosaics

@@ -12,7 +12,7 @@ use Rattle.catalog.specs.declared.driver.Content.TheVariants.{File, Mosaic}
 use Rattle.catalog.specs.declared.links.Link.{Link}
 use Rattle.catalog.specs.Drivers.{Dataset}
 use Rattle.catalog.specs.Walk.{number_of, sources_in, sources_among, IsDataset, IsApart}
-use Rattle.catalog.specs.Linked.{State, is_waiting, is_open, IsLinkOf, IsLink, IsMet, IsLinked, IsOff, Grows, Goes, IsPath, pushed, closed, one_counted}
+use Rattle.catalog.specs.Linked.{State, is_waiting, is_open, IsLinkOf, IsLink, IsMet, IsLinked, IsOff, Grows, Goes, IsPath, pushed, met_whole, one_counted}
 use Rattle.catalog.proofs.Found.{some_is, found, flat_rows, rows_stay, most_stays}
 use Rattle.catalog.proofs.Numbers.{number_kept, number_of_added, number_of_other, apart_more}
 
@@ -174,13 +174,13 @@ path_pushed st d path linked fresh is name = by_test (bytes_eq d.head.name name)
 
 -- a dataset is met whole
 
-pub grows_closed : (st : State) (id : ℕ) (l : Link) → slice_get st.links id ≡ Some None → Grows st (closed st id l)
+pub grows_closed : (st : State) (id : ℕ) (l : Link) → slice_get st.links id ≡ Some None → Grows st (met_whole st id l)
 grows_closed st id l waits = record { datasets = λ k d is. is; links = λ k m is. set_other st.links id k (Some l) (λ e. none_here (sym (ap (slice_get st.links) e ∙ waits) ∙ is)) ∙ is }
   where
     none_here : {m : Link} → Some None ≡ Some (Some m) → ⊥
     none_here e = none≢some (some_is e)
 
-pub linked_closed : (st : State) (id : ℕ) (d : Dataset) (l : Link) → IsLinked st → slice_get st.datasets id ≡ Some d → slice_get st.links id ≡ Some None → IsLink st d l → IsLinked (closed st id l)
+pub linked_closed : (st : State) (id : ℕ) (d : Dataset) (l : Link) → IsLinked st → slice_get st.datasets id ≡ Some d → slice_get st.links id ≡ Some None → IsLink st d l → IsLinked (met_whole st id l)
 linked_closed st id d l linked at waits link = record {
   long = length-set st.links id (Some l) ∙ linked.long;
   each = linked.each;
@@ -190,32 +190,32 @@ linked_closed st id d l linked at waits link = record {
   whole = λ k e m at' whole. by_place k e m at' whole (eq_or_not k id);
 }
   where
-    stays : (e : Dataset) (m : Link) → IsLink st e m → IsLink (closed st id l) e m
-    stays e m is = link_stays st (closed st id l) e m (grows_closed st id l waits) linked.apart is
+    stays : (e : Dataset) (m : Link) → IsLink st e m → IsLink (met_whole st id l) e m
+    stays e m is = link_stays st (met_whole st id l) e m (grows_closed st id l waits) linked.apart is
 
     eq_or_not : (a b : ℕ) → (a ≡ b) ⊎ (a ≡ b → ⊥)
     eq_or_not a b = grind arith
 
-    by_place : (k : ℕ) (e : Dataset) (m : Link) → slice_get st.datasets k ≡ Some e → slice_get (set st.links id (Some l)) k ≡ Some (Some m) → (k ≡ id) ⊎ (k ≡ id → ⊥) → IsLink (closed st id l) e m
+    by_place : (k : ℕ) (e : Dataset) (m : Link) → slice_get st.datasets k ≡ Some e → slice_get (set st.links id (Some l)) k ≡ Some (Some m) → (k ≡ id) ⊎ (k ≡ id → ⊥) → IsLink (met_whole st id l) e m
     by_place k e m at' whole (inl same) =
         let here : slice_get (set st.links id (Some l)) id ≡ Some (Some l) = set_same st.links id (Some l) (slice_get_within st.links id None waits) in
         let links : l ≡ m = some_is (some_is (sym here ∙ ap (slice_get (set st.links id (Some l))) (sym same) ∙ whole)) in
         let sets : d ≡ e = some_is (sym at ∙ ap (slice_get st.datasets) (sym same) ∙ at') in
-        subst (λ (x : Dataset). IsLink (closed st id l) x m) sets (subst (λ (x : Link). IsLink (closed st id l) d x) links (stays d l link))
+        subst (λ (x : Dataset). IsLink (met_whole st id l) x m) sets (subst (λ (x : Link). IsLink (met_whole st id l) d x) links (stays d l link))
     by_place k e m at' whole (inr other) = stays e m (linked.whole k e m at' (sym (set_other st.links id k (Some l) other) ∙ whole))
 
-open_closed : (st : State) (id : ℕ) (d : Dataset) (l : Link) → IsLinked st → slice_get st.datasets id ≡ Some d → slice_get st.links id ≡ Some None → (name : List ℕ) → is_open (closed st id l) name ≡ cond (bytes_eq d.head.name name) false (is_open st name)
+open_closed : (st : State) (id : ℕ) (d : Dataset) (l : Link) → IsLinked st → slice_get st.datasets id ≡ Some d → slice_get st.links id ≡ Some None → (name : List ℕ) → is_open (met_whole st id l) name ≡ cond (bytes_eq d.head.name name) false (is_open st name)
 open_closed st id d l linked at waits name = by_test (bytes_eq d.head.name name) refl
   where
-    other : (b : Bool) → bytes_eq d.head.name name ≡ false → (o : Option ℕ) → number_of st.datasets name ≡ o → is_open (closed st id l) name ≡ is_open st name
-    other b e None none = open_unknown (closed st id l) name none ∙ sym (open_unknown st name none)
+    other : (b : Bool) → bytes_eq d.head.name name ≡ false → (o : Option ℕ) → number_of st.datasets name ≡ o → is_open (met_whole st id l) name ≡ is_open st name
+    other b e None none = open_unknown (met_whole st id l) name none ∙ sym (open_unknown st name none)
     other b e (Some k) is =
         let f = found st.datasets name k is in
         let apart : k ≡ id → ⊥ = λ same. true≢false (sym ((bytes_eq-Decides d.head.name name).1 (ap (λ (x : Dataset). x.head.name) (some_is (sym at ∙ ap (slice_get st.datasets) (sym same) ∙ f.at)) ∙ f.named)) ∙ e) in
-        open_known (closed st id l) name k (slice_get st.links k) is (set_other st.links id k (Some l) apart) ∙ sym (open_known st name k (slice_get st.links k) is refl)
+        open_known (met_whole st id l) name k (slice_get st.links k) is (set_other st.links id k (Some l) apart) ∙ sym (open_known st name k (slice_get st.links k) is refl)
 
-    by_test : (b : Bool) → bytes_eq d.head.name name ≡ b → is_open (closed st id l) name ≡ cond b false (is_open st name)
-    by_test true e = open_known (closed st id l) name id (Some (Some l)) (sym (ap (number_of st.datasets) ((bytes_eq-Decides d.head.name name).0 e)) ∙ linked.apart id d at) (set_same st.links id (Some l) (slice_get_within st.links id None waits))
+    by_test : (b : Bool) → bytes_eq d.head.name name ≡ b → is_open (met_whole st id l) name ≡ cond b false (is_open st name)
+    by_test true e = open_known (met_whole st id l) name id (Some (Some l)) (sym (ap (number_of st.datasets) ((bytes_eq-Decides d.head.name name).0 e)) ∙ linked.apart id d at) (set_same st.links id (Some l) (slice_get_within st.links id None waits))
     by_test false e = other false e (number_of st.datasets name) refl
 
 among_pushed : (st : State) (d : Dataset) (x : Option Link) → sources_among (pushed st d x).datasets ≡ sources_among st.datasets + length (sources_in d.content)
@@ -234,7 +234,7 @@ goes_file st d l linked after fresh none = record {
     by_test name false e = refl
 
 -- a mosaic is met: it is open while the walk goes through its sources, and then it is met whole
-pub goes_mosaic : (st after : State) (d : Dataset) (id : ℕ) (l : Link) → IsLinked st → IsLinked (pushed st d None) → number_of st.datasets d.head.name ≡ None → Goes (length (sources_in d.content)) (pushed st d None) after → slice_get after.datasets id ≡ Some d → slice_get after.links id ≡ Some None → IsLink after d l → Goes 0 st (closed after id l)
+pub goes_mosaic : (st after : State) (d : Dataset) (id : ℕ) (l : Link) → IsLinked st → IsLinked (pushed st d None) → number_of st.datasets d.head.name ≡ None → Goes (length (sources_in d.content)) (pushed st d None) after → slice_get after.datasets id ≡ Some d → slice_get after.links id ≡ Some None → IsLink after d l → Goes 0 st (met_whole after id l)
 goes_mosaic st after d id l linked first fresh goes at waits link = record {
   linked = linked_closed after id d l goes.linked at waits link;
   same_open = λ name. by_test name (bytes_eq d.head.name name) refl ∙ sym (open_closed after id d l goes.linked at waits name);

@@ -11,7 +11,7 @@ use Rattle.catalog.specs.Heads.{IsOwnFault}
 use Rattle.catalog.specs.Outcomes.{IsOutside}
 use Rattle.catalog.specs.Walk.{Met, visit, visit_sources}
 use Rattle.catalog.specs.Linked.{State, met_of, IsLinked, Grows, Goes}
-use Rattle.catalog.specs.Walking.{Seen, IsPlain, WalksOn, Passes}
+use Rattle.catalog.specs.Walking.{Seen, IsOrdinaryFault, WalksOn, Passes}
 use Rattle.catalog.proofs.States.{grows_refl, grows_trans, goes_trans, goes_none}
 use Rattle.catalog.proofs.Readings.{read_then}
 use Rattle.catalog.proofs.Visits.{sources_append, still_refused}
@@ -25,14 +25,14 @@ fault_is T f g is = cc
 pub ok≢err : {T : Type 0} {x : T} {f : WalkFault} → Ok x ≡ Err f → ⊥
 ok≢err is = cc
 
-pub plain_known : (f : WalkFault) (n : List ℕ) → IsPlain f → f ≡ NotRecognized n → ⊥
-plain_known f n plain is = subst IsPlain is plain
+pub plain_known : (f : WalkFault) (n : List ℕ) → IsOrdinaryFault f → f ≡ NotRecognized n → ⊥
+plain_known f n plain is = subst IsOrdinaryFault is plain
 
-pub plain_own : (f : WalkFault) (n : List ℕ) (b : Bad) → IsPlain f → f ≡ Malformed n b → IsOwnFault b
-plain_own f n b plain is = subst IsPlain is plain
+pub plain_own : (f : WalkFault) (n : List ℕ) (b : Bad) → IsOrdinaryFault f → f ≡ Malformed n b → IsOwnFault b
+plain_own f n b plain is = subst IsOrdinaryFault is plain
 
-pub plain_inside : (f : WalkFault) → IsPlain f → f ≡ FolderFault → ⊥
-plain_inside f plain is = subst IsPlain is plain
+pub plain_inside : (f : WalkFault) → IsOrdinaryFault f → f ≡ FolderFault → ⊥
+plain_inside f plain is = subst IsOrdinaryFault is plain
 
 -- walks
 
@@ -49,7 +49,7 @@ walks_none a st x linked = record {
 }
 
 -- a plain refusal, where what was met stays
-pub walks_plain : (T : Type 0) (n : ℕ) (a : Seen) (old new : State) (f : WalkFault) → Grows old new → IsPlain f → WalksOn n a a old new (failed T f)
+pub walks_plain : (T : Type 0) (n : ℕ) (a : Seen) (old new : State) (f : WalkFault) → Grows old new → IsOrdinaryFault f → WalksOn n a a old new (failed T f)
 walks_plain T n a old new f grows plain = record {
   grows = grows;
   goes = tt;
@@ -157,5 +157,5 @@ module _ (verify : Bool) (room : ℕ) (base : List ℕ) where
     reached = tt;
   }
     where
-      plain : IsPlain f
-      plain = subst IsPlain (sym free) tt
+      plain : IsOrdinaryFault f
+      plain = subst IsOrdinaryFault (sym free) tt

@@ -5,13 +5,13 @@ use Rattle.std.proofs.lemmas.Option.{slice_get_within, get_or_from_slice_get}
 use Rattle.catalog.specs.declared.links.Link.{Link}
 use Rattle.catalog.specs.Drivers.{Dataset}
 use Rattle.catalog.specs.Walk.{number_of, sources_among, IsNested}
-use Rattle.catalog.specs.Linked.{State, is_open, Grows, Goes, IsWhole, IsPath, cut_to}
+use Rattle.catalog.specs.Linked.{State, is_open, Grows, Goes, IsWholeWalk, IsPath, cut_to}
 use Rattle.catalog.proofs.Found.{found}
 use Rattle.catalog.proofs.Heights.{nested_is}
 use Rattle.catalog.proofs.States.{open_known, open_unknown, item_there, front_stays}
 
 -- no name is open
-pub none_open : (st : State) → IsWhole st → (name : List ℕ) → is_open st name ≡ false
+pub none_open : (st : State) → IsWholeWalk st → (name : List ℕ) → is_open st name ≡ false
 none_open st whole name = by_number (number_of st.datasets name) refl
   where
     by_number : (o : Option ℕ) → number_of st.datasets name ≡ o → is_open st name ≡ false
@@ -23,11 +23,11 @@ none_open st whole name = by_number (number_of st.datasets name) refl
         open_known st name id (Some (Some shut.0)) is (there.1 ∙ ap Some shut.1)
 
 -- so the path is empty
-pub whole_path : (st : State) → IsWhole st → IsPath st []
+pub whole_path : (st : State) → IsWholeWalk st → IsPath st []
 whole_path st whole name = sym (none_open st whole name)
 
 -- a walk that ends leaves nothing open
-pub whole_goes : (old new : State) → IsWhole old → Goes 0 old new → IsWhole new
+pub whole_goes : (old new : State) → IsWholeWalk old → Goes 0 old new → IsWholeWalk new
 whole_goes old new whole goes = record {
   linked = goes.linked;
   catalog = record {
@@ -64,7 +64,7 @@ whole_goes old new whole goes = record {
         (nested_is 16 new goes.linked k there.0 l.0 (record { at = there.1; whole = at }) (goes.linked.whole k there.0 l.0 there.1 at).shallow)
 
 -- what a walk met before it was refused is as it was
-pub cut_back : (old new : State) → IsWhole old → Grows old new → cut_to new (length old.datasets) old.sources ≡ old
+pub cut_back : (old new : State) → IsWholeWalk old → Grows old new → cut_to new (length old.datasets) old.sources ≡ old
 cut_back old new whole grows =
     let datasets : take (length old.datasets) new.datasets ≡ old.datasets = front_stays old.datasets new.datasets grows.datasets in
     let links : take (length old.datasets) new.links ≡ old.links = ap (λ n. take n new.links) (sym whole.linked.long) ∙ front_stays old.links new.links (λ id x is. stays id x is (whole.closed id x is)) in

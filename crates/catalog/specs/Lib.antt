@@ -1,6 +1,7 @@
 -- What public clauses and laws speak of: to be read and trusted.
 pub mod Dataset
 pub mod Drivers
+pub mod Nodata
 pub mod Heads
 pub mod Mosaics
 pub mod Places

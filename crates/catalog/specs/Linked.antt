@@ -110,8 +110,8 @@ abbrev pub pushed : State → Dataset → Option Link → State
 pushed st d link = record { datasets = st.datasets ++ d ∷ []; links = st.links ++ link ∷ []; sources = st.sources }
 
 -- the dataset of a number was met whole
-abbrev pub closed : State → ℕ → Link → State
-closed st id link = record { datasets = st.datasets; links = set st.links id (Some link); sources = st.sources }
+abbrev pub met_whole : State → ℕ → Link → State
+met_whole st id link = record { datasets = st.datasets; links = set st.links id (Some link); sources = st.sources }
 
 -- the state with one source more
 abbrev pub one_counted : State → State
@@ -185,7 +185,7 @@ pub record Goes (n : ℕ) (old new : State) : Type 0 where
   pub counted : new.sources + sources_among old.datasets ≡ old.sources + n + sources_among new.datasets
 
 -- nothing is open
-pub record IsWhole (st : State) : Type 0 where
+pub record IsWholeWalk (st : State) : Type 0 where
   pub linked : IsLinked st
   pub catalog : IsCatalog st.datasets
   pub closed : (id : ℕ) (x : Option Link) → slice_get st.links id ≡ Some x → (l : Link) × (x ≡ Some l)

@@ -114,7 +114,7 @@ member_pixel m cat d s x y =
     unwrap_or (option_map (λ t. pixel_of m cat t (s.band - 1) x y) (member_of cat d.head.name s)) (pos 0)
 
 -- what a source of a band names: a dataset of the catalog that has the source's band, with samples that it takes
-pub record IsTaken (cat : List Dataset) (d : Dataset) (band source : ℕ) (s : SourceValue) : Type 0 where
+pub record TakesMember (cat : List Dataset) (d : Dataset) (band source : ℕ) (s : SourceValue) : Type 0 where
   pub member : ℕ
   pub dataset : Dataset
   pub is : member_at cat d band source ≡ Some member

@@ -6,7 +6,7 @@ use Rattle.std.specs.List.{sum_by}
 use Rattle.lists_and_answers.specs.Answers.{◌>>=◌}
 use Rattle.lists_and_answers.specs.Lists.{is_among}
 use Rattle.outside.specs.Outside.{Files}
-use Rattle.geotransform.specs.Types.{bytes_of}
+use Rattle.geotransform.specs.Types.{byte_count}
 use Rattle.vrt_profile.specs.Value.{is_plain}
 use Rattle.vrt_profile.specs.Values.{SourceValue, most_sources}
 use Rattle.vrt_markup.specs.declared.fault.VrtFault.TheVariants as vrt
@@ -86,7 +86,7 @@ unless_no_band cat name band = if nat_lt (bands_of (dataset_named cat name)) ban
 -- the samples of a band have at most 32 bits
 abbrev pub is_narrow_band : Option BandHead → Bool
 is_narrow_band None = true
-is_narrow_band (Some b) = nat_le (bytes_of b.kind) 4
+is_narrow_band (Some b) = nat_le (byte_count b.kind) 4
 
 -- a band of the dataset of a name, counted from 1
 abbrev pub band_named : Option Dataset → ℕ → Option BandHead

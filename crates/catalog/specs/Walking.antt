@@ -32,21 +32,21 @@ pub record Seen : Type 0 where
   pub faults : ℕ
 
 -- what is seen of a folder, of these parts
-abbrev pub seen : Option Files → ℕ → ℕ → ℕ → Seen
-seen names writes reads faults = record { names = names; writes = writes; reads = reads; faults = faults }
+abbrev pub folder_seen : Option Files → ℕ → ℕ → ℕ → Seen
+folder_seen names writes reads faults = record { names = names; writes = writes; reads = reads; faults = faults }
 
 -- a refusal that says nothing of a name's kind or of a call of the folder, and of a file only what its form may lack
-abbrev pub IsPlain : WalkFault → Type 0
-IsPlain (Absent name) = Unit {0}
-IsPlain (NotRecognized name) = ⊥
-IsPlain (Malformed name bad) = IsOwnFault bad
-IsPlain (Short name needed has) = Unit {0}
-IsPlain (Cycle name) = Unit {0}
-IsPlain (TooDeep name) = Unit {0}
-IsPlain (Limit what value) = Unit {0}
-IsPlain (SourceBand name band) = Unit {0}
-IsPlain FolderFault = ⊥
-IsPlain Memory = Unit {0}
+abbrev pub IsOrdinaryFault : WalkFault → Type 0
+IsOrdinaryFault (Absent name) = Unit {0}
+IsOrdinaryFault (NotRecognized name) = ⊥
+IsOrdinaryFault (Malformed name bad) = IsOwnFault bad
+IsOrdinaryFault (Short name needed has) = Unit {0}
+IsOrdinaryFault (Cycle name) = Unit {0}
+IsOrdinaryFault (TooDeep name) = Unit {0}
+IsOrdinaryFault (Limit what value) = Unit {0}
+IsOrdinaryFault (SourceBand name band) = Unit {0}
+IsOrdinaryFault FolderFault = ⊥
+IsOrdinaryFault Memory = Unit {0}
 
 -- What was met stays, after an answer the walk went on through so many sources, and the folder is as it was but for its
 -- counts.
@@ -152,4 +152,4 @@ pub record Names (base : List ℕ) (s : SourceValue) (old new : State) (result :
   pub kept : IfOk result (λ (w : Wanted). w.plain ≡ is_plain s)
   pub grows : Grows old new
   pub counted : OnOk result (new ≡ one_counted old)
-  pub plain : IfErr result IsPlain
+  pub plain : IfErr result IsOrdinaryFault

@@ -35,14 +35,14 @@ pub struct Catalog {
 
 impl Model for Catalog {
     ghost use Rattle.std.specs.Prelude.{List};
-    ghost use Rattle.catalog.specs.Linked.{IsWhole};
+    ghost use Rattle.catalog.specs.Linked.{IsWholeWalk};
     ghost use Rattle.catalog.specs.Drivers.{Dataset as Known};
 
     ghost Value = { List Known };
 
     ghost view = { λ c. c.met.datasets };
 
-    ghost invariant = { λ c. IsWhole c.met };
+    ghost invariant = { λ c. IsWholeWalk c.met };
 }
 
 impl Catalog {

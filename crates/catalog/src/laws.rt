@@ -8,7 +8,7 @@ ghost use Rattle.catalog.specs.declared.driver.DriverHead.{DriverHead};
 ghost use Rattle.catalog.specs.Drivers.{Dataset, document_of, driver_of};
 ghost use Rattle.catalog.specs.Walk.{IsCatalog, IsWalked};
 ghost use Rattle.catalog.specs.Links.{source_at};
-ghost use Rattle.catalog.specs.Pixels.{pixel_of, pixel_of_name, file_pixel, member_size, member_pixel, IsTaken};
+ghost use Rattle.catalog.specs.Pixels.{pixel_of, pixel_of_name, file_pixel, member_size, member_pixel, TakesMember};
 ghost use Rattle.catalog.specs.Pixels.{AreOfMembers};
 ghost use Rattle.catalog.specs.Places.{block_rect_of, row_by_row};
 ghost use Rattle.catalog.specs.Blocks.{block_pixels};
@@ -55,7 +55,7 @@ pub fn mosaic_pixels_are_of_sources()
 /// it takes.
 pub fn sources_have_members()
     ensures there { (cat : List Dataset) (id band source : ℕ) (d : Dataset) (s : SourceValue) → IsCatalog cat →
-        slice_get cat id ≡ Some d → source_at d band source ≡ Some s → IsTaken cat d band source s }
+        slice_get cat id ≡ Some d → source_at d band source ≡ Some s → TakesMember cat d band source s }
 {}
 
 /// A catalog that grows keeps the pixels of its datasets.

@@ -7,10 +7,10 @@ ghost use Rattle.lists_and_answers.specs.Answers.{Gives};
 ghost use Rattle.lists_and_answers.specs.Lists.{flattened};
 ghost use Rattle.catalog.specs.Outcomes.{IsMemory};
 ghost use Rattle.catalog.specs.Drivers.{Dataset as Known};
-ghost use Rattle.catalog.specs.Walking.{IsPlain};
+ghost use Rattle.catalog.specs.Walking.{IsOrdinaryFault};
 ghost use Rattle.catalog.specs.Dataset.{band_count, band_at, most_datasets, most_nestings};
 ghost use Rattle.catalog.specs.Walk.{is_narrow_band, number_of, one_more_source};
-ghost use Rattle.catalog.specs.Linked.{State, IsLinked, IsHigh, IsDeep, Grows, HasBand, IsMosaicAt, pushed, closed};
+ghost use Rattle.catalog.specs.Linked.{State, IsLinked, IsHigh, IsDeep, Grows, HasBand, IsMosaicAt, pushed, met_whole};
 ghost use Rattle.catalog.specs.Linked.{one_counted, cut_to, height_at, most, first_above};
 
 use crate::dataset::Dataset;
@@ -217,7 +217,7 @@ impl Met {
         requires known { id < length self.old.links }
         requires rows { All (λ row. All (λ id. id < length self.old.links) row) members }
         requires low { most self.old.links (flattened members) < most_nestings }
-        ensures closed { self.new ≡ closed self.old id
+        ensures closed { self.new ≡ met_whole self.old id
             (record { height = suc (most self.old.links (flattened members)); members = members }) }
     {
         let height = self.highest(members.as_slice()) + 1;
@@ -237,7 +237,7 @@ impl Met {
     /// Counts one source more. Limit comes exactly where there would be more than 262,144.
     pub fn count_source(&mut self) -> Result<(), WalkFault>
         ensures told { Gives IsMemory (λ _. tt) result (one_more_source self.old.sources) }
-        ensures plain { IfErr result IsPlain }
+        ensures plain { IfErr result IsOrdinaryFault }
         ensures ok { OnOk result (self.new ≡ one_counted self.old) }
         ensures err { OnErr result (self.new ≡ self.old) }
     {

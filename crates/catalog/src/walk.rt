@@ -12,7 +12,8 @@ ghost use Rattle.catalog.specs.Walk.{number_of, dataset_named, band_named, is_na
 ghost use Rattle.catalog.specs.Walk.{unless_no_samples, unless_wide, visit};
 ghost use Rattle.vrt_profile.specs.Value.{is_plain};
 ghost use Rattle.catalog.specs.Linked.{IsLinked, IsPath, IsLow, IsMosaicAt, HasBand, HasSource, met_of};
-ghost use Rattle.catalog.specs.Walking.{IsPlain, Meets, Visits, Passes, Names, Reaches, ReachesRows, seen};
+ghost use Rattle.catalog.specs.Walking.{IsOrdinaryFault, Meets, Visits, Passes, Names, Reaches, ReachesRows};
+ghost use Rattle.catalog.specs.Walking.{folder_seen};
 ghost use Rattle.catalog.specs.Walking.{IsWalkedUpTo, IsMetLow};
 
 use crate::driver::Content;
@@ -63,7 +64,7 @@ fn resolve_source(alloc: Global, met: &Met, at: SourceAt) -> Result<Wanted, Walk
         (resolved w.of.mosaic.dataset.head.name w.value) }
     ensures band { (w : HasSource met.now at.id at.band at.source) → IfOk result (λ r. r.band ≡ w.value.band) }
     ensures kept { (w : HasSource met.now at.id at.band at.source) → IfOk result (λ r. r.plain ≡ is_plain w.value) }
-    ensures plain { IfErr result IsPlain }
+    ensures plain { IfErr result IsOrdinaryFault }
 {
     let base = met.name(at.id);
     let source = met.band(at.id, at.band).sources.get(at.source);
@@ -86,7 +87,7 @@ fn resolve_source(alloc: Global, met: &Met, at: SourceAt) -> Result<Wanted, Walk
 fn check_band(met: &Met, member: u32, wanted: &Wanted) -> Result<(), WalkFault>
     requires number { number_of met.now.datasets wanted.now.name ≡ Some member }
     ensures told { Gives IsMemory (λ _. tt) result (unless_no_band met.now.datasets wanted.now.name wanted.now.band) }
-    ensures plain { IfErr result IsPlain }
+    ensures plain { IfErr result IsOrdinaryFault }
 {
     if wanted.band as usize > met.band_count(member) {
         return Err(WalkFault::SourceBand {
@@ -123,7 +124,7 @@ fn check_width(met: &Met, id: u32, member: u32, wanted: &Wanted) -> Result<(), W
     ensures told { (d : Known) → slice_get met.now.datasets id ≡ Some d →
         Gives IsMemory (λ _. tt) result (unless_wide met.now.datasets d.head.name wanted.now.name wanted.now.band
         wanted.now.plain) }
-    ensures plain { IfErr result IsPlain }
+    ensures plain { IfErr result IsOrdinaryFault }
 {
     if takes_samples(met, member, wanted) {
         return Ok(());
@@ -141,7 +142,7 @@ fn check_samples(met: &Met, id: u32, member: u32, wanted: &Wanted) -> Result<(),
     ensures told { (d : Known) → slice_get met.now.datasets id ≡ Some d →
         Gives IsMemory (λ _. tt) result (unless_no_samples met.now.datasets d.head.name wanted.now.name wanted.now.band
         wanted.now.plain) }
-    ensures plain { IfErr result IsPlain }
+    ensures plain { IfErr result IsOrdinaryFault }
 {
     check_band(met, member, wanted)?;
     check_width(met, id, member, wanted)
@@ -154,7 +155,7 @@ fn check_again(met: &Met, id: u32, room: u32, name: &Name) -> Result<(), WalkFau
     ensures told { (m : Files) (verify : Bool) (path : List (List ℕ)) → IsPath met.now path →
         Gives IsMemory (λ _. met_of met.now) result (visit m verify room path (met_of met.now) name.now) }
     ensures low { OnOk result (IsLow met.now id room) }
-    ensures plain { IfErr result IsPlain }
+    ensures plain { IfErr result IsOrdinaryFault }
 {
     match met.link(id) {
         None => Err(WalkFault::Cycle {
@@ -195,8 +196,8 @@ fn meet_first<F: Folder>(
     requires kind { kind_in name.now ≡ Ok kind }
     requires shallow { room_for room kind name.now ≡ Ok tt }
     requires fresh { number_of met.old.datasets name.now ≡ None }
-    ensures meets { Meets verify room name.now (seen (F.names folder.old) (F.write_calls folder.old)
-        (F.read_calls folder.old) (F.faults folder.old)) (seen (F.names folder.new) (F.write_calls folder.new)
+    ensures meets { Meets verify room name.now (folder_seen (F.names folder.old) (F.write_calls folder.old)
+        (F.read_calls folder.old) (F.faults folder.old)) (folder_seen (F.names folder.new) (F.write_calls folder.new)
         (F.read_calls folder.new) (F.faults folder.new)) met.old met.new result }
 {
     if met.count() >= MOST_DATASETS {
@@ -225,8 +226,8 @@ fn meet<F: Folder>(
 ) -> Result<Meeting, WalkFault>
     requires linked { IsLinked met.old }
     requires room { room ≤ most_nestings }
-    ensures meets { Meets verify room name.now (seen (F.names folder.old) (F.write_calls folder.old)
-        (F.read_calls folder.old) (F.faults folder.old)) (seen (F.names folder.new) (F.write_calls folder.new)
+    ensures meets { Meets verify room name.now (folder_seen (F.names folder.old) (F.write_calls folder.old)
+        (F.read_calls folder.old) (F.faults folder.old)) (folder_seen (F.names folder.new) (F.write_calls folder.new)
         (F.read_calls folder.new) (F.faults folder.new)) met.old met.new result }
 {
     if let Some(id) = met.number(name) {
@@ -292,8 +293,8 @@ fn visit_source<F: Folder>(
     requires there { HasSource met.old at.id at.band at.source }
     requires row { IsWalkedUpTo met.old room at.id at.band at.source row.now }
     ensures passes { (w : HasSource met.old at.id at.band at.source) → Passes verify room w.of.mosaic.dataset.head.name
-        (w.value ∷ []) (seen (F.names folder.old) (F.write_calls folder.old) (F.read_calls folder.old)
-        (F.faults folder.old)) (seen (F.names folder.new) (F.write_calls folder.new) (F.read_calls folder.new)
+        (w.value ∷ []) (folder_seen (F.names folder.old) (F.write_calls folder.old) (F.read_calls folder.old)
+        (F.faults folder.old)) (folder_seen (F.names folder.new) (F.write_calls folder.new) (F.read_calls folder.new)
         (F.faults folder.new)) met.old met.new (λ t. Reaches met.new room w.of.mosaic.dataset.head.name (w.value ∷ [])
         (t ∷ [])) result }
 {
@@ -322,9 +323,9 @@ fn visit_band<F: Folder>(
     requires room { room < most_nestings }
     requires there { HasBand met.old id band }
     ensures passes { (w : HasBand met.old id band) → Passes verify room w.mosaic.dataset.head.name w.value.sources
-        (seen (F.names folder.old) (F.write_calls folder.old) (F.read_calls folder.old) (F.faults folder.old))
-        (seen (F.names folder.new) (F.write_calls folder.new) (F.read_calls folder.new) (F.faults folder.new)) met.old
-        met.new (λ row. Reaches met.new room w.mosaic.dataset.head.name w.value.sources row) result }
+        (folder_seen (F.names folder.old) (F.write_calls folder.old) (F.read_calls folder.old) (F.faults folder.old))
+        (folder_seen (F.names folder.new) (F.write_calls folder.new) (F.read_calls folder.new) (F.faults folder.new))
+        met.old met.new (λ row. Reaches met.new room w.mosaic.dataset.head.name w.value.sources row) result }
 {
     let mut row = Items::new(alloc);
     let count = met.band(id, band).sources.len();
@@ -350,9 +351,9 @@ fn visit_bands<F: Folder>(
     requires room { room < most_nestings }
     requires there { IsMosaicAt met.old id }
     ensures passes { (w : IsMosaicAt met.old id) → Passes verify room w.dataset.head.name (sources_of w.document)
-        (seen (F.names folder.old) (F.write_calls folder.old) (F.read_calls folder.old) (F.faults folder.old))
-        (seen (F.names folder.new) (F.write_calls folder.new) (F.read_calls folder.new) (F.faults folder.new)) met.old
-        met.new (λ rows. ReachesRows met.new room w.dataset.head.name w.document.bands rows) result }
+        (folder_seen (F.names folder.old) (F.write_calls folder.old) (F.read_calls folder.old) (F.faults folder.old))
+        (folder_seen (F.names folder.new) (F.write_calls folder.new) (F.read_calls folder.new) (F.faults folder.new))
+        met.old met.new (λ rows. ReachesRows met.new room w.dataset.head.name w.document.bands rows) result }
 {
     let mut rows = Items::new(alloc);
     let count = met.document(id).bands.len();
@@ -376,8 +377,8 @@ pub fn visit<F: Folder>(
 ) -> Result<u32, WalkFault>
     requires linked { IsLinked met.old }
     requires room { room ≤ most_nestings }
-    ensures visits { Visits verify room name.now (seen (F.names folder.old) (F.write_calls folder.old)
-        (F.read_calls folder.old) (F.faults folder.old)) (seen (F.names folder.new) (F.write_calls folder.new)
+    ensures visits { Visits verify room name.now (folder_seen (F.names folder.old) (F.write_calls folder.old)
+        (F.read_calls folder.old) (F.faults folder.old)) (folder_seen (F.names folder.new) (F.write_calls folder.new)
         (F.read_calls folder.new) (F.faults folder.new)) met.old met.new result }
 {
     let meeting = meet(alloc, met, folder, verify, room, name)?;

@@ -1,7 +1,7 @@
 -- What the definitions say of some command lines.
 use Rattle.std.proofs.Common.{◌≡◌, pos, neg_ℤ, [], ◌∷◌, Some, None, true, false, Ok, Err, refl}
 use Rattle.std.specs.Prelude.{codes}
-use Rattle.outside.specs.Names.{ending_of, last_part, kind_of, extension_of}
+use Rattle.outside.specs.Names.{ending_of, last_part, extension_of_ending, extension_of}
 use Rattle.outside.specs.Paths.{normal}
 use Rattle.geotransform.specs.Decimal.{parts_of, ticks_of, whole_of, is_decimal}
 use Rattle.geotransform.specs.declared.types.PixelType.TheVariants.{UInt16}
@@ -30,7 +30,7 @@ translated : words_of (codes "gdal_translate" ∷ codes "-b" ∷ codes "2" ∷ c
       blocks = 64;
       workers = 1;
     })
-unfolding words_of command_of spoken_in spoken_of translate_job asked_of written_of extension_of ending_of last_part kind_of shared_option_of own_option_of window_said outsize_said band_said nodata_said kind_said creation_said placed_said layout_of nodata_of normal whole_of parts_of type_named
+unfolding words_of command_of spoken_in spoken_of translate_job asked_of written_of extension_of ending_of last_part extension_of_ending shared_option_of own_option_of window_said outsize_said band_said nodata_said kind_said creation_said placed_said layout_of nodata_of normal whole_of parts_of type_named
 translated = refl
 
 -- a setting that is no, and a word with a dash as the value of another
@@ -60,21 +60,21 @@ missing = refl
 
 -- an output of another format than is asked for, and one of none, are named
 other_format : words_of (codes "gdal_translate" ∷ codes "a.bil" ∷ codes "b.asc" ∷ codes "-of" ∷ codes "ehdr" ∷ []) ≡ Err (Usage 2)
-unfolding words_of command_of spoken_in spoken_of translate_job asked_of written_of extension_of ending_of last_part kind_of shared_option_of own_option_of format_said format_of placed_said normal
+unfolding words_of command_of spoken_in spoken_of translate_job asked_of written_of extension_of ending_of last_part extension_of_ending shared_option_of own_option_of format_said format_of placed_said normal
 other_format = refl
 
 no_format : words_of (codes "gdal_translate" ∷ codes "a.bil" ∷ codes "b.tif" ∷ []) ≡ Err (Usage 2)
-unfolding words_of command_of spoken_in spoken_of translate_job asked_of written_of extension_of ending_of last_part kind_of shared_option_of own_option_of placed_said normal
+unfolding words_of command_of spoken_in spoken_of translate_job asked_of written_of extension_of ending_of last_part extension_of_ending shared_option_of own_option_of placed_said normal
 no_format = refl
 
 -- of two options that don't go together the later is named, by its last use
 two_windows : words_of (codes "gdal_translate" ∷ codes "-projwin" ∷ codes "0" ∷ codes "1" ∷ codes "1" ∷ codes "0" ∷ codes "a.bil" ∷ codes "-srcwin" ∷ codes "0" ∷ codes "0" ∷ codes "1" ∷ codes "1" ∷ codes "b.bil" ∷ codes "-projwin" ∷ codes "0" ∷ codes "1" ∷ codes "1" ∷ codes "0" ∷ []) ≡ Err (Usage 13)
-unfolding words_of command_of spoken_in spoken_of translate_job asked_of written_of extension_of ending_of last_part kind_of shared_option_of own_option_of window_said places_said placed_said normal ticks_of parts_of
+unfolding words_of command_of spoken_in spoken_of translate_job asked_of written_of extension_of ending_of last_part extension_of_ending shared_option_of own_option_of window_said places_said placed_said normal ticks_of parts_of
 two_windows = refl
 
 -- a layout of an output that isn't raw data
 no_layout : words_of (codes "gdal_translate" ∷ codes "a.bil" ∷ codes "-co" ∷ codes "INTERLEAVE=BSQ" ∷ codes "b.asc" ∷ []) ≡ Err (Usage 2)
-unfolding words_of command_of spoken_in spoken_of translate_job asked_of written_of extension_of ending_of last_part kind_of shared_option_of own_option_of creation_said layout_of placed_said normal
+unfolding words_of command_of spoken_in spoken_of translate_job asked_of written_of extension_of ending_of last_part extension_of_ending shared_option_of own_option_of creation_said layout_of placed_said normal
 no_layout = refl
 
 -- half a point
@@ -90,7 +90,7 @@ built : words_of (codes "gdalbuildvrt" ∷ codes "-te" ∷ codes "0" ∷ codes "
       blocks = 64;
       workers = 1;
     })
-unfolding words_of command_of spoken_in spoken_of build_job asked_mosaic written_of extension_of ending_of last_part kind_of shared_option_of own_option_of pixel_size_said extent_said source_nodata_said mosaic_nodata_said list_said placed_said nodata_of normal ticks_of whole_of parts_of
+unfolding words_of command_of spoken_in spoken_of build_job asked_mosaic written_of extension_of ending_of last_part extension_of_ending shared_option_of own_option_of pixel_size_said extent_said source_nodata_said mosaic_nodata_said list_said placed_said nodata_of normal ticks_of whole_of parts_of
 built = refl
 
 -- the greatest column isn't beyond the least, which is named before the early end
@@ -100,7 +100,7 @@ no_columns = refl
 
 -- a given size goes together with the user's resolution alone, and of each option the last use counts
 size_beside_word : words_of (codes "gdalbuildvrt" ∷ codes "-tr" ∷ codes "1" ∷ codes "1" ∷ codes "out.vrt" ∷ codes "-resolution" ∷ codes "user" ∷ codes "a.bil" ∷ codes "-resolution" ∷ codes "lowest" ∷ []) ≡ Err (Usage 8)
-unfolding words_of command_of spoken_in spoken_of build_job asked_mosaic written_of extension_of ending_of last_part kind_of shared_option_of own_option_of resolution_said pixel_size_said resolution_named placed_said normal ticks_of parts_of
+unfolding words_of command_of spoken_in spoken_of build_job asked_mosaic written_of extension_of ending_of last_part extension_of_ending shared_option_of own_option_of resolution_said pixel_size_said resolution_named placed_said normal ticks_of parts_of
 size_beside_word = refl
 
 -- the side of the tiles, alone, beside a count of blocks and beside a setting that has no effect; the greatest one

@@ -8,11 +8,11 @@ use Rattle.command_words.specs.declared.spoken.MosaicSaid.TheVariants as mosaic
 use Rattle.command_words.specs.declared.spoken.Said.{Said}
 use Rattle.command_words.specs.declared.spoken.Said.TheVariants as said
 use Rattle.command_words.specs.declared.spoken.Spoken.{Spoken}
-use Rattle.command_words.specs.declared.spoken.Spot.{Spot}
+use Rattle.command_words.specs.declared.spoken.WordPlace.{WordPlace}
 use Rattle.command_words.specs.declared.spoken.WordFault.{WordFault}
 use Rattle.command_words.specs.Options.{option_of, value_count}
 use Rattle.command_words.specs.Said.{option_said}
-use Rattle.command_words.specs.Uses.{Use, cut, taken_by, said_by, behind_use, judged, with_said, spoken_of, spoken_in}
+use Rattle.command_words.specs.Uses.{Use, uses_from, taken_by, said_by, behind_use, judged, with_said, spoken_of, spoken_in}
 use Rattle.command_words.specs.Words.{IsMemory}
 
 -- one use more
@@ -56,10 +56,10 @@ abbrev pub use_at : Tool → ℕ → List ℕ → List (List ℕ) → Use
 use_at tool at word behind = record { at = at; word = word; option = option_of tool word; values = take (taken_by (option_of tool word)) behind }
 
 -- an option, and its values among the words behind it
-pub option_used : (tool : Tool) (spot : Spot) (before : ℕ) (word : List ℕ) (behind values : List (List ℕ)) (o : OptionWord) (r : Result Said WordFault) → option_of tool word ≡ Some o → values ≡ take (value_count o) behind → Gives IsMemory (λ s. s) r (option_said o spot values) → Gives IsMemory (λ s. s) r (said_by (option_of tool word) tool spot.count before (use_at tool spot.at word behind))
-option_used tool spot before word behind values o r named few is =
-    let told : Gives IsMemory (λ s. s) r (option_said o spot (take (value_count o) behind)) = subst (λ (vs : List (List ℕ)). Gives IsMemory (λ s. s) r (option_said o spot vs)) few is in
-    subst (λ (p : Option OptionWord). Gives IsMemory (λ s. s) r (said_by p tool spot.count before (record { at = spot.at; word = word; option = p; values = take (taken_by p) behind }))) (sym named) told
+pub option_used : (tool : Tool) (place : WordPlace) (before : ℕ) (word : List ℕ) (behind values : List (List ℕ)) (o : OptionWord) (r : Result Said WordFault) → option_of tool word ≡ Some o → values ≡ take (value_count o) behind → Gives IsMemory (λ s. s) r (option_said o place values) → Gives IsMemory (λ s. s) r (said_by (option_of tool word) tool place.count before (use_at tool place.at word behind))
+option_used tool place before word behind values o r named few is =
+    let told : Gives IsMemory (λ s. s) r (option_said o place (take (value_count o) behind)) = subst (λ (vs : List (List ℕ)). Gives IsMemory (λ s. s) r (option_said o place vs)) few is in
+    subst (λ (p : Option OptionWord). Gives IsMemory (λ s. s) r (said_by p tool place.count before (record { at = place.at; word = word; option = p; values = take (taken_by p) behind }))) (sym named) told
 
 -- the word in a place of a list stands before those behind it
 pub next_word : {X : Type 0} (f : X → List ℕ) (words : List X) (i : ℕ) (word d : X) → i < length words → word ≡ get_or words i d → map f (drop i words) ≡ f word ∷ map f (drop (i + 1) words)
@@ -69,7 +69,7 @@ next_word f words i word d less is = ap (map f) (drop_more words i d less) ∙ a
 pub record Told (tool : Tool) (count before taken at : ℕ) (all : Spoken) (left words : List (List ℕ)) : Type 0 where
   pub uses : List (ℕ × Said)
   pub said_is : all ≡ spoken_of uses
-  pub same : judged tool count before uses (cut tool at taken left) ≡ judged tool count 0 [] (cut tool 1 0 words)
+  pub same : judged tool count before uses (uses_from tool at taken left) ≡ judged tool count 0 [] (uses_from tool 1 0 words)
 
 pub told_none : (tool : Tool) (count : ℕ) (all : Spoken) (words : List (List ℕ)) → all ≡ spoken_of [] → Told tool count 0 0 1 all words words
 told_none tool count all words is = record { uses = []; said_is = is; same = refl }
@@ -83,7 +83,7 @@ module _ (tool : Tool) (count before at : ℕ) (all : Spoken) (word : List ℕ) 
   this = use_at tool at word left
 
   abbrev rest : Result Said WordFault → List (ℕ × Said) → Result (List (ℕ × Said)) WordFault
-  rest r uses = r >>= (λ s. judged tool count (behind_use before (option_of tool word)) ((at, s) ∷ uses) (cut tool (at + 1) (taken_by (option_of tool word)) left))
+  rest r uses = r >>= (λ s. judged tool count (behind_use before (option_of tool word)) ((at, s) ∷ uses) (uses_from tool (at + 1) (taken_by (option_of tool word)) left))
 
   -- a use that fits
   pub told_more : (s : Said) (next : Spoken) → Told tool count before zero at all (word ∷ left) words → said_by (option_of tool word) tool count before this ≡ Ok s → next ≡ with_said at s all → Told tool count (behind_use before (option_of tool word)) (taken_by (option_of tool word)) (at + 1) next left words
@@ -97,7 +97,7 @@ module _ (tool : Tool) (count before at : ℕ) (all : Spoken) (word : List ℕ) 
   pub told_refused : (f : WordFault) → Told tool count before zero at all (word ∷ left) words → said_by (option_of tool word) tool count before this ≡ Err f → spoken_in tool count words ≡ Err f
   unfolding spoken_in
   told_refused f t is =
-      let all_refused : judged tool count 0 [] (cut tool 1 0 words) ≡ Err f = sym t.same ∙ ap (λ (r : Result Said WordFault). rest r t.uses) is in
+      let all_refused : judged tool count 0 [] (uses_from tool 1 0 words) ≡ Err f = sym t.same ∙ ap (λ (r : Result Said WordFault). rest r t.uses) is in
       ap (λ (r : Result (List (ℕ × Said)) WordFault). r >>= (λ (uses : List (ℕ × Said)). Ok (spoken_of uses))) all_refused
 
   -- the same where so many values are left

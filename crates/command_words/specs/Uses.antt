@@ -44,16 +44,16 @@ taken_by None = 0
 taken_by (Some option) = value_count option
 
 -- the uses among words from this number on, where so many first ones are values of the option before
-abbrev pub cut : Tool → ℕ → ℕ → List (List ℕ) → List Use
-cut tool at taken [] = []
-cut tool at zero (word ∷ words) = record {
+abbrev pub uses_from : Tool → ℕ → ℕ → List (List ℕ) → List Use
+uses_from tool at taken [] = []
+uses_from tool at zero (word ∷ words) = record {
   at = at;
   word = word;
   option = option_of tool word;
   values = take (taken_by (option_of tool word)) words;
-} ∷ cut
+} ∷ uses_from
     tool (at + 1) (taken_by (option_of tool word)) words
-cut tool at (suc taken) (word ∷ words) = cut tool (at + 1) taken words
+uses_from tool at (suc taken) (word ∷ words) = uses_from tool (at + 1) taken words
 
 -- whether a word that begins with a dash may stand without an option
 abbrev pub may_be_negative : Tool → List ℕ → Bool
@@ -301,11 +301,15 @@ mosaic_of uses = record {
   strict = is_some (last strict uses);
 }
 
+-- How many blocks a pool holds where no use says it.
+abbrev pub usual_blocks : ℕ
+usual_blocks = 64
+
 -- what uses say in all: the last of each option, all bands, and the positional words
 unfoldable pub spoken_of : List (ℕ × Said) → Spoken
 spoken_of uses = record {
   verify = unwrap_or (last verification uses) false;
-  blocks = unwrap_or (last block_count uses) 64;
+  blocks = unwrap_or (last block_count uses) usual_blocks;
   workers = unwrap_or (last worker_count uses) 1;
   bands = bands_said uses;
   band_at = last band_place uses;
@@ -366,5 +370,5 @@ with_said at (said.Tile n) s = record s { tile = Some n }
 -- the same of the words behind the first, of all words so many
 unfoldable pub spoken_in : Tool → ℕ → List (List ℕ) → Result Spoken WordFault
 spoken_in tool count words = do
-  uses ← judged tool count 0 [] (cut tool 1 0 words)
+  uses ← judged tool count 0 [] (uses_from tool 1 0 words)
   Ok (spoken_of uses)

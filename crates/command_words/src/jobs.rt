@@ -2,7 +2,8 @@
 ghost use Rattle.std.specs.Prelude.{◌≡◌, ◌<◌, ◌≤◌, All, IfSome, IfOk, IfErr};
 ghost use Rattle.lists_and_answers.specs.Answers.{Gives};
 ghost use Rattle.translate_plan.specs.Options.{IsDriver, IsView, IsOutSize};
-ghost use Rattle.buildvrt.specs.Options.{IsResolution, IsExtent, IsWord};
+ghost use Rattle.buildvrt.specs.Options.{IsResolution, IsExtent};
+ghost use Rattle.catalog.specs.Nodata.{IsNodataWord};
 ghost use Rattle.command_words.specs.Jobs.{point_of, form_of, format_for, layout_for, written_as, is_same_format};
 ghost use Rattle.command_words.specs.Jobs.{of_format, written_of, view_of, layout_in, asked_of, info_job, locate_job};
 ghost use Rattle.command_words.specs.Jobs.{translate_job, inputs_of, separate_of, named_resolution, given_resolution};
@@ -413,7 +414,7 @@ fn extent_of(extent: Option<AskedExtent>) -> Option<Extent>
 // The NODATA that is asked for.
 fn nodata_of(nodata: AskedNodata) -> NodataWord
     ensures value { result ≡ nodata }
-    ensures kept { IsWord result }
+    ensures kept { IsNodataWord result }
 {
     nodata.get()
 }

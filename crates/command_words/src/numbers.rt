@@ -1,6 +1,7 @@
 // Numbers and other values that keep the ranges of words.
 ghost use Rattle.std.specs.Prelude.{◌≡◌, ◌≤◌, ◌&&◌, nat_le, if◌then◌else◌, Some, None};
-ghost use Rattle.translate_plan.specs.Options.{IsView, IsOutSize, IsWord};
+ghost use Rattle.translate_plan.specs.Options.{IsView, IsOutSize};
+ghost use Rattle.catalog.specs.Nodata.{IsNodataWord};
 ghost use Rattle.buildvrt.specs.Options.{IsResolution, IsExtent};
 ghost use Rattle.band_blocks.specs.Blocks.{most_blocks};
 
@@ -138,13 +139,13 @@ pub struct AskedNodata {
 
 impl Model for AskedNodata {
     ghost use Rattle.catalog.specs.declared.nodata.NodataWord.{NodataWord};
-    ghost use Rattle.translate_plan.specs.Options.{IsWord};
+    ghost use Rattle.catalog.specs.Nodata.{IsNodataWord};
 
     ghost Value = { NodataWord };
 
     ghost view = { λ v. v.word };
 
-    ghost invariant = { λ v. IsWord v.word };
+    ghost invariant = { λ v. IsNodataWord v.word };
 
     ghost inverse = { λ v. record { word = v } };
 }
@@ -152,7 +153,7 @@ impl Model for AskedNodata {
 impl AskedNodata {
     /// This NODATA.
     pub fn of(word: NodataWord) -> AskedNodata
-        requires { IsWord word }
+        requires { IsNodataWord word }
         ensures { result ≡ word }
     {
         AskedNodata { word }
@@ -161,7 +162,7 @@ impl AskedNodata {
     /// What was asked for.
     pub fn get(self) -> NodataWord
         ensures value { result ≡ self }
-        ensures kept { IsWord result }
+        ensures kept { IsNodataWord result }
     {
         self.word
     }

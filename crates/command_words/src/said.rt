@@ -1,7 +1,7 @@
 // What options say by their values.
 ghost use Rattle.std.specs.Prelude.{◌≡◌, ◌+◌, ◌<◌, ◌<ℤ◌, ◌≤◌, pos, length, map, slice_get, string_bytes, option_map};
 ghost use Rattle.std.specs.Prelude.{IfSome, IfOk};
-ghost use Rattle.translate_plan.specs.Options.{IsWhole};
+ghost use Rattle.translate_plan.specs.Options.{IsShortNumber};
 ghost use Rattle.lists_and_answers.specs.Answers.{Gives};
 ghost use Rattle.geotransform.specs.Decimal.{ticks_of};
 ghost use Rattle.command_words.specs.Values.{integer_of, side_of, nodata_of, beyond};
@@ -13,7 +13,7 @@ ghost use Rattle.command_words.specs.Words.{IsMemory};
 
 use crate::numbers::{AskedExtent, AskedNodata, AskedResolution, AskedView, Side};
 use crate::options::OptionWord;
-use crate::spoken::{MosaicSaid, Said, Spot, WordFault};
+use crate::spoken::{MosaicSaid, Said, WordFault, WordPlace};
 use crate::values::{
     band_of, beyond, blocks_of, format_of, integer_of, is_no, layout_of, nodata_of, read_name,
     resolution_named, side_of, workers_of,
@@ -36,56 +36,56 @@ fn word_at(values: &[String], i: usize) -> Option<&str>
 }
 
 // What is answered where the values of an option end early, and where one of them is refused.
-fn ends_early(spot: Spot) -> WordFault
-    ensures { result ≡ WordFault.Usage spot.count }
+fn ends_early(place: WordPlace) -> WordFault
+    ensures { result ≡ WordFault.Usage place.count }
 {
-    WordFault::Usage { word: spot.count }
+    WordFault::Usage { word: place.count }
 }
 
-fn refused(spot: Spot, i: usize) -> WordFault
-    requires { spot.at + 1 + i ≤ spot.count }
-    ensures { result ≡ WordFault.Usage (spot.at + 1 + i) }
+fn refused(place: WordPlace, i: usize) -> WordFault
+    requires { place.at + 1 + i ≤ place.count }
+    ensures { result ≡ WordFault.Usage (place.at + 1 + i) }
 {
     WordFault::Usage {
-        word: spot.at + 1 + i as u64,
+        word: place.at + 1 + i as u64,
     }
 }
 
-fn integer_said(spot: Spot, values: &[String], i: usize) -> Result<i64, WordFault>
-    requires within { spot.at + length values.now < spot.count }
-    ensures value { result ≡ value_said integer_of spot (map string_bytes values.now) i }
-    ensures kept { IfOk result IsWhole }
+fn integer_said(place: WordPlace, values: &[String], i: usize) -> Result<i64, WordFault>
+    requires within { place.at + length values.now < place.count }
+    ensures value { result ≡ value_said integer_of place (map string_bytes values.now) i }
+    ensures kept { IfOk result IsShortNumber }
 {
     match word_at(values, i) {
-        None => Err(ends_early(spot)),
+        None => Err(ends_early(place)),
         Some(word) => match integer_of(word.as_bytes()) {
-            None => Err(refused(spot, i)),
+            None => Err(refused(place, i)),
             Some(number) => Ok(number),
         },
     }
 }
 
-fn place_said(spot: Spot, values: &[String], i: usize) -> Result<Position, WordFault>
-    requires within { spot.at + length values.now < spot.count }
-    ensures { result ≡ value_said ticks_of spot (map string_bytes values.now) i }
+fn place_said(place: WordPlace, values: &[String], i: usize) -> Result<Position, WordFault>
+    requires within { place.at + length values.now < place.count }
+    ensures { result ≡ value_said ticks_of place (map string_bytes values.now) i }
 {
     match word_at(values, i) {
-        None => Err(ends_early(spot)),
+        None => Err(ends_early(place)),
         Some(word) => match Position::read(word.as_bytes()) {
-            None => Err(refused(spot, i)),
-            Some(place) => Ok(place),
+            None => Err(refused(place, i)),
+            Some(position) => Ok(position),
         },
     }
 }
 
-fn side_said(spot: Spot, values: &[String], i: usize) -> Result<Side, WordFault>
-    requires within { spot.at + length values.now < spot.count }
-    ensures { result ≡ value_said side_of spot (map string_bytes values.now) i }
+fn side_said(place: WordPlace, values: &[String], i: usize) -> Result<Side, WordFault>
+    requires within { place.at + length values.now < place.count }
+    ensures { result ≡ value_said side_of place (map string_bytes values.now) i }
 {
     match word_at(values, i) {
-        None => Err(ends_early(spot)),
+        None => Err(ends_early(place)),
         Some(word) => match side_of(word.as_bytes()) {
-            None => Err(refused(spot, i)),
+            None => Err(refused(place, i)),
             Some(side) => Ok(side),
         },
     }
@@ -102,28 +102,28 @@ fn setting_said(key: &str, value: &str) -> Said
 }
 
 #[tactic(auto, unfolding(crate::specs::Said::config_said))]
-fn config_said(spot: Spot, values: &[String]) -> Result<Said, WordFault>
-    requires within { spot.at + length values.now < spot.count }
-    ensures { result ≡ config_said spot (map string_bytes values.now) }
+fn config_said(place: WordPlace, values: &[String]) -> Result<Said, WordFault>
+    requires within { place.at + length values.now < place.count }
+    ensures { result ≡ config_said place (map string_bytes values.now) }
 {
     let Some(key) = word_at(values, 0) else {
-        return Err(ends_early(spot));
+        return Err(ends_early(place));
     };
     let Some(value) = word_at(values, 1) else {
-        return Err(ends_early(spot));
+        return Err(ends_early(place));
     };
     Ok(setting_said(key, value))
 }
 
 #[tactic(auto, unfolding(crate::specs::Said::window_said))]
-fn window_said(spot: Spot, values: &[String]) -> Result<Said, WordFault>
-    requires within { spot.at + length values.now < spot.count }
-    ensures { result ≡ window_said spot (map string_bytes values.now) }
+fn window_said(place: WordPlace, values: &[String]) -> Result<Said, WordFault>
+    requires within { place.at + length values.now < place.count }
+    ensures { result ≡ window_said place (map string_bytes values.now) }
 {
-    let x = integer_said(spot, values, 0)?;
-    let y = integer_said(spot, values, 1)?;
-    let w = integer_said(spot, values, 2)?;
-    let h = integer_said(spot, values, 3)?;
+    let x = integer_said(place, values, 0)?;
+    let y = integer_said(place, values, 1)?;
+    let w = integer_said(place, values, 2)?;
+    let h = integer_said(place, values, 3)?;
     Ok(Said::Window(AskedView::of(View::Pixels { x, y, w, h })))
 }
 
@@ -140,135 +140,140 @@ fn between(ulx: Position, uly: Position, lrx: Position, lry: Position) -> AskedV
 }
 
 #[tactic(auto, unfolding(crate::specs::Said::places_said))]
-fn places_said(spot: Spot, values: &[String]) -> Result<Said, WordFault>
-    requires within { spot.at + length values.now < spot.count }
-    ensures { result ≡ places_said spot (map string_bytes values.now) }
+fn places_said(place: WordPlace, values: &[String]) -> Result<Said, WordFault>
+    requires within { place.at + length values.now < place.count }
+    ensures { result ≡ places_said place (map string_bytes values.now) }
 {
-    let ulx = place_said(spot, values, 0)?;
-    let uly = place_said(spot, values, 1)?;
-    let lrx = place_said(spot, values, 2)?;
-    let lry = place_said(spot, values, 3)?;
+    let ulx = place_said(place, values, 0)?;
+    let uly = place_said(place, values, 1)?;
+    let lrx = place_said(place, values, 2)?;
+    let lry = place_said(place, values, 3)?;
     Ok(Said::Places(between(ulx, uly, lrx, lry)))
 }
 
 #[tactic(auto, unfolding(crate::specs::Said::outsize_said))]
-fn outsize_said(spot: Spot, values: &[String]) -> Result<Said, WordFault>
-    requires within { spot.at + length values.now < spot.count }
-    ensures { result ≡ outsize_said spot (map string_bytes values.now) }
+fn outsize_said(place: WordPlace, values: &[String]) -> Result<Said, WordFault>
+    requires within { place.at + length values.now < place.count }
+    ensures { result ≡ outsize_said place (map string_bytes values.now) }
 {
-    let w = side_said(spot, values, 0)?;
-    let h = side_said(spot, values, 1)?;
+    let w = side_said(place, values, 0)?;
+    let h = side_said(place, values, 1)?;
     Ok(Said::OutSize(w, h))
 }
 
 #[tactic(auto, unfolding(crate::specs::Said::band_said))]
-fn band_said(spot: Spot, values: &[String]) -> Result<Said, WordFault>
-    requires within { spot.at + length values.now < spot.count }
-    ensures { result ≡ band_said spot (map string_bytes values.now) }
+fn band_said(place: WordPlace, values: &[String]) -> Result<Said, WordFault>
+    requires within { place.at + length values.now < place.count }
+    ensures { result ≡ band_said place (map string_bytes values.now) }
 {
     match word_at(values, 0) {
-        None => Err(ends_early(spot)),
+        None => Err(ends_early(place)),
         Some(word) => match band_of(word.as_bytes()) {
-            None => Err(refused(spot, 0)),
+            None => Err(refused(place, 0)),
             Some(band) => Ok(Said::Band(band)),
         },
     }
 }
 
 #[tactic(auto, unfolding(crate::specs::Said::blocks_said))]
-fn blocks_said(spot: Spot, values: &[String]) -> Result<Said, WordFault>
-    requires within { spot.at + length values.now < spot.count }
-    ensures { result ≡ blocks_said spot (map string_bytes values.now) }
+fn blocks_said(place: WordPlace, values: &[String]) -> Result<Said, WordFault>
+    requires within { place.at + length values.now < place.count }
+    ensures { result ≡ blocks_said place (map string_bytes values.now) }
 {
     match word_at(values, 0) {
-        None => Err(ends_early(spot)),
+        None => Err(ends_early(place)),
         Some(word) => match blocks_of(word.as_bytes()) {
-            None => Err(refused(spot, 0)),
+            None => Err(refused(place, 0)),
             Some(blocks) => Ok(Said::Blocks(blocks)),
         },
     }
 }
 
 #[tactic(auto, unfolding(crate::specs::Said::workers_said))]
-fn workers_said(spot: Spot, values: &[String]) -> Result<Said, WordFault>
-    requires within { spot.at + length values.now < spot.count }
-    ensures { result ≡ workers_said spot (map string_bytes values.now) }
+fn workers_said(place: WordPlace, values: &[String]) -> Result<Said, WordFault>
+    requires within { place.at + length values.now < place.count }
+    ensures { result ≡ workers_said place (map string_bytes values.now) }
 {
     match word_at(values, 0) {
-        None => Err(ends_early(spot)),
+        None => Err(ends_early(place)),
         Some(word) => match workers_of(word.as_bytes()) {
-            None => Err(refused(spot, 0)),
+            None => Err(refused(place, 0)),
             Some(workers) => Ok(Said::Workers(workers)),
         },
     }
 }
 
 #[tactic(auto, unfolding(crate::specs::Said::format_said))]
-fn format_said(spot: Spot, values: &[String]) -> Result<Said, WordFault>
-    requires within { spot.at + length values.now < spot.count }
-    ensures { result ≡ format_said spot (map string_bytes values.now) }
+fn format_said(place: WordPlace, values: &[String]) -> Result<Said, WordFault>
+    requires within { place.at + length values.now < place.count }
+    ensures { result ≡ format_said place (map string_bytes values.now) }
 {
     match word_at(values, 0) {
-        None => Err(ends_early(spot)),
+        None => Err(ends_early(place)),
         Some(word) => match format_of(word) {
-            None => Err(refused(spot, 0)),
+            None => Err(refused(place, 0)),
             Some(format) => Ok(Said::Format(format)),
         },
     }
 }
 
 #[tactic(auto, unfolding(crate::specs::Said::kind_said))]
-fn kind_said(spot: Spot, values: &[String]) -> Result<Said, WordFault>
-    requires within { spot.at + length values.now < spot.count }
-    ensures { result ≡ kind_said spot (map string_bytes values.now) }
+fn kind_said(place: WordPlace, values: &[String]) -> Result<Said, WordFault>
+    requires within { place.at + length values.now < place.count }
+    ensures { result ≡ kind_said place (map string_bytes values.now) }
 {
     match word_at(values, 0) {
-        None => Err(ends_early(spot)),
+        None => Err(ends_early(place)),
         Some(word) => match PixelType::read_name(word.as_bytes(), true) {
-            None => Err(refused(spot, 0)),
+            None => Err(refused(place, 0)),
             Some(kind) => Ok(Said::Kind(kind)),
         },
     }
 }
 
 #[tactic(auto, unfolding(crate::specs::Said::creation_said))]
-fn creation_said(spot: Spot, values: &[String]) -> Result<Said, WordFault>
-    requires within { spot.at + length values.now < spot.count }
-    ensures { result ≡ creation_said spot (map string_bytes values.now) }
+fn creation_said(place: WordPlace, values: &[String]) -> Result<Said, WordFault>
+    requires within { place.at + length values.now < place.count }
+    ensures { result ≡ creation_said place (map string_bytes values.now) }
 {
     match word_at(values, 0) {
-        None => Err(ends_early(spot)),
+        None => Err(ends_early(place)),
         Some(word) => match layout_of(word) {
-            None => Err(refused(spot, 0)),
+            None => Err(refused(place, 0)),
             Some(layout) => Ok(Said::Interleave(layout)),
         },
     }
 }
 
 #[tactic(auto, unfolding(crate::specs::Said::resolution_said))]
-fn resolution_said(spot: Spot, values: &[String]) -> Result<Said, WordFault>
-    requires within { spot.at + length values.now < spot.count }
-    ensures { result ≡ resolution_said spot (map string_bytes values.now) }
+fn resolution_said(place: WordPlace, values: &[String]) -> Result<Said, WordFault>
+    requires within { place.at + length values.now < place.count }
+    ensures { result ≡ resolution_said place (map string_bytes values.now) }
 {
     match word_at(values, 0) {
-        None => Err(ends_early(spot)),
+        None => Err(ends_early(place)),
         Some(word) => match resolution_named(word) {
-            None => Err(refused(spot, 0)),
+            None => Err(refused(place, 0)),
             Some(resolution) => Ok(Said::Mosaic(MosaicSaid::Resolution(resolution))),
         },
     }
 }
 
 // A number above so many ticks.
-fn beyond_said(spot: Spot, values: &[String], i: usize, least: i128) -> Result<Position, WordFault>
-    requires within { spot.at + length values.now < spot.count }
-    ensures value { result ≡ value_said (beyond least) spot (map string_bytes values.now) i }
+fn beyond_said(
+    place: WordPlace,
+    values: &[String],
+    i: usize,
+    least: i128,
+) -> Result<Position, WordFault>
+    requires within { place.at + length values.now < place.count }
+    ensures value { result ≡ value_said (beyond least) place (map string_bytes values.now) i }
     ensures kept { IfOk result (λ n. least <ℤ n) }
 {
     match word_at(values, i) {
-        None => Err(ends_early(spot)),
+        None => Err(ends_early(place)),
         Some(word) => match beyond(least, word.as_bytes()) {
-            None => Err(refused(spot, i)),
+            None => Err(refused(place, i)),
             Some(number) => Ok(number),
         },
     }
@@ -287,12 +292,12 @@ fn given(dx: Position, dy: Position) -> AskedResolution
 }
 
 #[tactic(auto, unfolding(crate::specs::Said::pixel_size_said))]
-fn pixel_size_said(spot: Spot, values: &[String]) -> Result<Said, WordFault>
-    requires within { spot.at + length values.now < spot.count }
-    ensures { result ≡ pixel_size_said spot (map string_bytes values.now) }
+fn pixel_size_said(place: WordPlace, values: &[String]) -> Result<Said, WordFault>
+    requires within { place.at + length values.now < place.count }
+    ensures { result ≡ pixel_size_said place (map string_bytes values.now) }
 {
-    let dx = beyond_said(spot, values, 0, 0)?;
-    let dy = beyond_said(spot, values, 1, 0)?;
+    let dx = beyond_said(place, values, 0, 0)?;
+    let dy = beyond_said(place, values, 1, 0)?;
     Ok(Said::Mosaic(MosaicSaid::PixelSize(given(dx, dy))))
 }
 
@@ -311,67 +316,67 @@ fn extent_between(xmin: Position, ymin: Position, xmax: Position, ymax: Position
 }
 
 #[tactic(auto, unfolding(crate::specs::Said::extent_said))]
-fn extent_said(spot: Spot, values: &[String]) -> Result<Said, WordFault>
-    requires within { spot.at + length values.now < spot.count }
-    ensures { result ≡ extent_said spot (map string_bytes values.now) }
+fn extent_said(place: WordPlace, values: &[String]) -> Result<Said, WordFault>
+    requires within { place.at + length values.now < place.count }
+    ensures { result ≡ extent_said place (map string_bytes values.now) }
 {
-    let xmin = place_said(spot, values, 0)?;
-    let ymin = place_said(spot, values, 1)?;
-    let xmax = beyond_said(spot, values, 2, xmin.get().get())?;
-    let ymax = beyond_said(spot, values, 3, ymin.get().get())?;
+    let xmin = place_said(place, values, 0)?;
+    let ymin = place_said(place, values, 1)?;
+    let xmax = beyond_said(place, values, 2, xmin.get().get())?;
+    let ymax = beyond_said(place, values, 3, ymin.get().get())?;
     let extent = extent_between(xmin, ymin, xmax, ymax);
     Ok(Said::Mosaic(MosaicSaid::Extent(extent)))
 }
 
 // A NODATA that is asked for.
-fn nodata_word_said(spot: Spot, values: &[String]) -> Result<AskedNodata, WordFault>
-    requires within { spot.at + length values.now < spot.count }
-    ensures { result ≡ value_said nodata_of spot (map string_bytes values.now) 0 }
+fn nodata_word_said(place: WordPlace, values: &[String]) -> Result<AskedNodata, WordFault>
+    requires within { place.at + length values.now < place.count }
+    ensures { result ≡ value_said nodata_of place (map string_bytes values.now) 0 }
 {
     match word_at(values, 0) {
-        None => Err(ends_early(spot)),
+        None => Err(ends_early(place)),
         Some(word) => match nodata_of(word) {
-            None => Err(refused(spot, 0)),
+            None => Err(refused(place, 0)),
             Some(nodata) => Ok(nodata),
         },
     }
 }
 
 #[tactic(auto, unfolding(crate::specs::Said::nodata_said))]
-fn nodata_said(spot: Spot, values: &[String]) -> Result<Said, WordFault>
-    requires within { spot.at + length values.now < spot.count }
-    ensures { result ≡ nodata_said spot (map string_bytes values.now) }
+fn nodata_said(place: WordPlace, values: &[String]) -> Result<Said, WordFault>
+    requires within { place.at + length values.now < place.count }
+    ensures { result ≡ nodata_said place (map string_bytes values.now) }
 {
-    let word = nodata_word_said(spot, values)?;
+    let word = nodata_word_said(place, values)?;
     Ok(Said::Nodata(word))
 }
 
 #[tactic(auto, unfolding(crate::specs::Said::source_nodata_said))]
-fn source_nodata_said(spot: Spot, values: &[String]) -> Result<Said, WordFault>
-    requires within { spot.at + length values.now < spot.count }
-    ensures { result ≡ source_nodata_said spot (map string_bytes values.now) }
+fn source_nodata_said(place: WordPlace, values: &[String]) -> Result<Said, WordFault>
+    requires within { place.at + length values.now < place.count }
+    ensures { result ≡ source_nodata_said place (map string_bytes values.now) }
 {
-    let word = nodata_word_said(spot, values)?;
+    let word = nodata_word_said(place, values)?;
     Ok(Said::Mosaic(MosaicSaid::SourceNodata(word)))
 }
 
 #[tactic(auto, unfolding(crate::specs::Said::mosaic_nodata_said))]
-fn mosaic_nodata_said(spot: Spot, values: &[String]) -> Result<Said, WordFault>
-    requires within { spot.at + length values.now < spot.count }
-    ensures { result ≡ mosaic_nodata_said spot (map string_bytes values.now) }
+fn mosaic_nodata_said(place: WordPlace, values: &[String]) -> Result<Said, WordFault>
+    requires within { place.at + length values.now < place.count }
+    ensures { result ≡ mosaic_nodata_said place (map string_bytes values.now) }
 {
-    let word = nodata_word_said(spot, values)?;
+    let word = nodata_word_said(place, values)?;
     Ok(Said::Mosaic(MosaicSaid::Nodata(word)))
 }
 
 #[tactic(auto, unfolding(crate::specs::Said::list_said))]
-fn list_said(alloc: Global, spot: Spot, values: &[String]) -> Result<Said, WordFault>
-    requires within { spot.at + length values.now < spot.count }
-    ensures { Gives IsMemory (λ s. s) result (list_said spot (map string_bytes values.now)) }
+fn list_said(alloc: Global, place: WordPlace, values: &[String]) -> Result<Said, WordFault>
+    requires within { place.at + length values.now < place.count }
+    ensures { Gives IsMemory (λ s. s) result (list_said place (map string_bytes values.now)) }
 {
     match word_at(values, 0) {
-        None => Err(ends_early(spot)),
-        Some(word) => match read_name(alloc, spot.at + 1, word) {
+        None => Err(ends_early(place)),
+        Some(word) => match read_name(alloc, place.at + 1, word) {
             Ok(name) => Ok(Said::List(name)),
             Err(fault) => Err(fault),
         },
@@ -382,38 +387,38 @@ fn list_said(alloc: Global, spot: Spot, values: &[String]) -> Result<Said, WordF
 pub fn option_said(
     alloc: Global,
     option: OptionWord,
-    spot: Spot,
+    place: WordPlace,
     values: &[String],
 ) -> Result<Said, WordFault>
-    requires within { spot.at + length values.now < spot.count }
-    ensures { Gives IsMemory (λ s. s) result (option_said option spot (map string_bytes values.now)) }
+    requires within { place.at + length values.now < place.count }
+    ensures { Gives IsMemory (λ s. s) result (option_said option place (map string_bytes values.now)) }
 {
     match option {
-        OptionWord::Config => config_said(spot, values),
-        OptionWord::Blocks => blocks_said(spot, values),
-        OptionWord::Workers => workers_said(spot, values),
-        OptionWord::Band => band_said(spot, values),
+        OptionWord::Config => config_said(place, values),
+        OptionWord::Blocks => blocks_said(place, values),
+        OptionWord::Workers => workers_said(place, values),
+        OptionWord::Band => band_said(place, values),
         OptionWord::ValuesOnly => Ok(Said::ValuesOnly),
         OptionWord::FilesOnly => Ok(Said::FilesOnly),
         OptionWord::Geoloc => Ok(Said::Geoloc),
-        OptionWord::Format => format_said(spot, values),
-        OptionWord::Window => window_said(spot, values),
-        OptionWord::Places => places_said(spot, values),
-        OptionWord::OutSize => outsize_said(spot, values),
-        OptionWord::Nodata => nodata_said(spot, values),
-        OptionWord::Kind => kind_said(spot, values),
-        OptionWord::Creation => creation_said(spot, values),
+        OptionWord::Format => format_said(place, values),
+        OptionWord::Window => window_said(place, values),
+        OptionWord::Places => places_said(place, values),
+        OptionWord::OutSize => outsize_said(place, values),
+        OptionWord::Nodata => nodata_said(place, values),
+        OptionWord::Kind => kind_said(place, values),
+        OptionWord::Creation => creation_said(place, values),
         OptionWord::Quiet => Ok(Said::Quiet),
         OptionWord::Inside => Ok(Said::Inside),
         OptionWord::Touching => Ok(Said::Touching),
-        OptionWord::Resolution => resolution_said(spot, values),
-        OptionWord::PixelSize => pixel_size_said(spot, values),
-        OptionWord::Extent => extent_said(spot, values),
-        OptionWord::SourceNodata => source_nodata_said(spot, values),
-        OptionWord::MosaicNodata => mosaic_nodata_said(spot, values),
+        OptionWord::Resolution => resolution_said(place, values),
+        OptionWord::PixelSize => pixel_size_said(place, values),
+        OptionWord::Extent => extent_said(place, values),
+        OptionWord::SourceNodata => source_nodata_said(place, values),
+        OptionWord::MosaicNodata => mosaic_nodata_said(place, values),
         OptionWord::Separate => Ok(Said::Mosaic(MosaicSaid::Separate)),
         OptionWord::Strict => Ok(Said::Mosaic(MosaicSaid::Strict)),
         OptionWord::Overwrite => Ok(Said::Setting),
-        OptionWord::InputList => list_said(alloc, spot, values),
+        OptionWord::InputList => list_said(alloc, place, values),
     }
 }

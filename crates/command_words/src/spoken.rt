@@ -34,7 +34,7 @@ pub enum ResolutionWord {
 
 /// Where a word stands: its number, and how many words there are.
 #[derive(Clone, Copy, PartialEq, Eq)]
-pub struct Spot {
+pub struct WordPlace {
     pub at: u64,
     pub count: u64,
 }

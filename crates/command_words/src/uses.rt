@@ -14,7 +14,7 @@ use crate::command::BandNumbers;
 use crate::numbers::{AskedNodata, BlockCount};
 use crate::options::{OptionWord, Tool, option_of, value_count};
 use crate::said::option_said;
-use crate::spoken::{MosaicSaid, MosaicWanted, Said, Spoken, Spot, Wanted, WordFault};
+use crate::spoken::{MosaicSaid, MosaicWanted, Said, Spoken, Wanted, WordFault, WordPlace};
 use crate::values::{begins_with_dash, read_name, tile_side_of};
 use catalog::NodataWord;
 use geotransform::{BandNumber, is_decimal};
@@ -305,14 +305,14 @@ fn use_said(
     alloc: Global,
     tool: Tool,
     before: u64,
-    spot: Spot,
+    place: WordPlace,
     word: &str,
     behind: &[String],
 ) -> Result<Said, WordFault>
-    requires within { spot.at + length behind.now < spot.count }
-    ensures { Gives IsMemory (λ s. s) result (said_by (option_of tool word.now) tool spot.count before
+    requires within { place.at + length behind.now < place.count }
+    ensures { Gives IsMemory (λ s. s) result (said_by (option_of tool word.now) tool place.count before
         (record {
-          at = spot.at;
+          at = place.at;
           word = word.now;
           option = option_of tool word.now;
           values = take
@@ -320,8 +320,8 @@ fn use_said(
         })) }
 {
     match option_of(tool, word) {
-        Some(option) => option_said(alloc, option, spot, front(behind, value_count(option))),
-        None => placed_said(alloc, tool, before, spot.at, word),
+        Some(option) => option_said(alloc, option, place, front(behind, value_count(option))),
+        None => placed_said(alloc, tool, before, place.at, word),
     }
 }
 
@@ -351,12 +351,12 @@ pub fn spoken_in(alloc: Global, tool: Tool, words: &[String]) -> Result<Spoken, 
             taken -= 1;
         } else {
             let at = i as u64 + 1;
-            let spot = Spot { at, count };
+            let place = WordPlace { at, count };
             let said = use_said(
                 alloc,
                 tool,
                 before,
-                spot,
+                place,
                 word.as_str(),
                 behind(words, i + 1),
             )?;

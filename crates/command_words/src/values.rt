@@ -3,7 +3,7 @@ ghost use Rattle.std.specs.Prelude.{◌≡◌, ◌<◌, ◌<ℤ◌, ◌^◌, IfS
 ghost use Rattle.lists_and_answers.specs.Answers.{Gives};
 ghost use Rattle.lists_and_answers.specs.Texts.{same_letters};
 ghost use Rattle.geotransform.specs.Limits.{most_short_digits};
-ghost use Rattle.translate_plan.specs.Options.{IsWhole};
+ghost use Rattle.translate_plan.specs.Options.{IsShortNumber};
 ghost use Rattle.command_words.specs.Values.{begins_with_dash, short_of, band_of, blocks_of, integer_of, side_of};
 ghost use Rattle.command_words.specs.Values.{name_of, is_no, format_of, layout_of, nodata_of, wide_number};
 ghost use Rattle.command_words.specs.Values.{tile_side_of, resolution_named, beyond, workers_of};
@@ -81,7 +81,7 @@ pub fn tile_side_of(word: &[u8]) -> Option<TileSide>
 /// One to nine digits, with a minus or without.
 pub fn integer_of(word: &[u8]) -> Option<i64>
     ensures value { result ≡ integer_of word.now }
-    ensures kept { IfSome result IsWhole }
+    ensures kept { IfSome result IsShortNumber }
 {
     match word {
         [] => None,

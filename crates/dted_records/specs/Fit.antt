@@ -4,7 +4,7 @@ use Rattle.std.specs.Prelude.{Option, Some, None, nat_lt, ◌==◌, if◌then◌
 use Rattle.lists_and_answers.specs.Options.{◌>>=◌}
 use Rattle.geotransform.specs.Geo.{Transform, is_north_up}
 use Rattle.geotransform.specs.Degrees.{degree_near, twice_west, twice_east, twice_south, twice_north, lon_of, lat_of}
-use Rattle.geotransform.specs.Degrees.{IsAt}
+use Rattle.geotransform.specs.Degrees.{IsAtDegree}
 use Rattle.geotransform.specs.declared.types.Size.{Size}
 use Rattle.dted_records.specs.Head.{Head}
 use Rattle.dted_records.specs.Places.{spacing}
@@ -77,10 +77,10 @@ pub record IsCell (level : ℕ) (size : Size) (g : Transform) (factor : ℕ) (la
   pub points : size.h ≡ points_of level
   pub zone : factor_at (edge_of lat) ≡ Some factor
   pub lines : size.w ≡ lines_of level factor
-  pub west : IsAt (spacing (step_of level * factor)) (twice_west g) lon
-  pub east : IsAt (spacing (step_of level * factor)) (twice_east g size.w) (lon +ℤ pos 1)
-  pub south : IsAt (spacing (step_of level)) (twice_south g size.h) lat
-  pub north : IsAt (spacing (step_of level)) (twice_north g) (lat +ℤ pos 1)
+  pub west : IsAtDegree (spacing (step_of level * factor)) (twice_west g) lon
+  pub east : IsAtDegree (spacing (step_of level * factor)) (twice_east g size.w) (lon +ℤ pos 1)
+  pub south : IsAtDegree (spacing (step_of level)) (twice_south g size.h) lat
+  pub north : IsAtDegree (spacing (step_of level)) (twice_north g) (lat +ℤ pos 1)
   pub lon_least : negsuc 179 ≤ℤ lon
   pub lon_most : lon ≤ℤ pos 179
   pub lat_least : negsuc 89 ≤ℤ lat

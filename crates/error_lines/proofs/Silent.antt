@@ -4,7 +4,7 @@ use Rattle.std.proofs.lemmas.List.{take-append-drop}
 use Rattle.outside.specs.Outside.{Files}
 use Rattle.error_lines.specs.declared.faults.Fault.{Fault}
 use Rattle.error_lines.specs.Faults.{IsOutside}
-use Rattle.error_lines.specs.Steps.{Step, Prints, Warns, Publishes, Done, AreWarned, AreDone, IsFirstPart, Goes, GoesWarning, warned, begun, cut, prints, publishes}
+use Rattle.error_lines.specs.Steps.{Step, Prints, Warns, Publishes, Done, AreWarned, AreDone, IsFirstPart, Goes, GoesWarning, warned, begun, cut_short, prints, publishes}
 use Rattle.error_lines.proofs.Warned.{warned_both, none_warned}
 
 -- texts and files are no warnings

@@ -60,12 +60,12 @@ begun count (Warns line ∷ steps) = []
 begun count (Publishes name bytes ∷ steps) = []
 
 -- so many of the steps, and so much of the text of the next
-abbrev pub cut : ℕ → ℕ → List Step → List Step
-cut whole count steps = take whole steps ++ begun count (drop whole steps)
+abbrev pub cut_short : ℕ → ℕ → List Step → List Step
+cut_short whole count steps = take whole steps ++ begun count (drop whole steps)
 
 -- the first of the steps, and a first part of the text of the next
 abbrev pub IsFirstPart : List Step → List Step → Type 0
-IsFirstPart part steps = (whole : ℕ) × (count : ℕ) × (part ≡ cut whole count steps)
+IsFirstPart part steps = (whole : ℕ) × (count : ℕ) × (part ≡ cut_short whole count steps)
 
 -- the map after these files are published, the first of them first
 abbrev pub applied : List (List ℕ × List ℕ) → Files → Files

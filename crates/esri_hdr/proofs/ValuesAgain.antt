@@ -16,7 +16,7 @@ use Rattle.esri_hdr.specs.declared.header_parts.HdrFault.TheVariants.{BadValue, 
 use Rattle.esri_hdr.specs.declared.header_parts.Layout.{Layout}
 use Rattle.esri_hdr.specs.declared.header_parts.Layout.TheVariants.{Bil, Bip, Bsq}
 use Rattle.lists_and_answers.specs.Answers.{◌>>=◌}
-use Rattle.esri_hdr.specs.Values.{at_most, counted, number_in, side_in, bands_in, bits_in, big_endian_in, layout_in, skip_in, signed_in, kind_of, row_in, band_row_in, total_row_in, gap_in, BandRowFits, TotalRowFits, GapFits}
+use Rattle.esri_hdr.specs.Values.{at_most, count_within, number_in, side_in, bands_in, bits_in, big_endian_in, layout_in, skip_in, signed_in, type_of_bits, row_in, band_row_in, total_row_in, gap_in, BandRowFits, TotalRowFits, GapFits}
 use Rattle.esri_hdr.specs.Head.{sample_len, IsSide}
 use Rattle.esri_hdr.specs.Text.{order_text, layout_text, sign_text}
 
@@ -38,16 +38,16 @@ number_again n small = ap (λ o. ok_or o BadValue) (number_of_again n small)
 at_most_again : (limit n : ℕ) → n ≤ limit → at_most limit n ≡ Ok n
 at_most_again limit n h = let no : nat_lt limit n ≡ false = grind (arith, nat_tests) in ap (λ b. cond b (Err Limit) (Ok n)) no
 
-counted_again : (limit n : ℕ) → 0 < n → n ≤ limit → counted limit n ≡ Ok n
+counted_again : (limit n : ℕ) → 0 < n → n ≤ limit → count_within limit n ≡ Ok n
 counted_again limit n some h = let no : (n == 0) ≡ false = grind (arith, nat_tests) in ap (λ b. cond b (Err BadValue) (at_most limit n)) no ∙ at_most_again limit n h
 
 pub side_again : (n : ℕ) → IsSide n → side_in (decimal n) ≡ Ok n
 unfolding side_in
-side_again n h = ap (λ (x : Result ℕ HdrFault). x >>= counted 4194304) (number_again n (omega arith)) ∙ counted_again 4194304 n h.0 h.1
+side_again n h = ap (λ (x : Result ℕ HdrFault). x >>= count_within 4194304) (number_again n (omega arith)) ∙ counted_again 4194304 n h.0 h.1
 
 pub bands_again : (n : ℕ) → (0 < n) × (n ≤ 256) → bands_in (Some (decimal n)) ≡ Ok n
 unfolding bands_in
-bands_again n h = ap (λ (x : Result ℕ HdrFault). x >>= counted 256) (number_again n (omega arith)) ∙ counted_again 256 n h.0 h.1
+bands_again n h = ap (λ (x : Result ℕ HdrFault). x >>= count_within 256) (number_again n (omega arith)) ∙ counted_again 256 n h.0 h.1
 
 abbrev is_bits : ℕ → Bool
 is_bits n = (n == 8) || ((n == 16) || ((n == 32) || (n == 64)))
@@ -92,8 +92,8 @@ signed_again Int32 nodata = refl
 signed_again UInt64 nodata = refl
 signed_again Int64 nodata = refl
 
-pub kind_again : (kind : PixelType) → kind_of (8 * sample_len kind) (is_signed kind) ≡ kind
-unfolding kind_of
+pub kind_again : (kind : PixelType) → type_of_bits (8 * sample_len kind) (is_signed kind) ≡ kind
+unfolding type_of_bits
 kind_again Byte = refl
 kind_again Int8 = refl
 kind_again UInt16 = refl

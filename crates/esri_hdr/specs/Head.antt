@@ -6,7 +6,7 @@ use Rattle.std.specs.Option.{option_map}
 use Rattle.lists_and_answers.specs.Answers.{◌>>=◌}
 use Rattle.geotransform.specs.Decimal.{ticks_of, whole_of, IsRead}
 use Rattle.geotransform.specs.Print.{unit}
-use Rattle.geotransform.specs.Types.{is_in, bytes_of, when_in}
+use Rattle.geotransform.specs.Types.{is_in, byte_count, when_in}
 use Rattle.geotransform.specs.Places.{half, sixteen_places}
 use Rattle.geotransform.specs.Geo.{Transform, is_near, is_north_up, sizes_held}
 use Rattle.geotransform.specs.declared.types.Size.{Size}
@@ -19,7 +19,8 @@ use Rattle.esri_hdr.specs.declared.header_parts.RawGeo.{RawGeo}
 use Rattle.esri_hdr.specs.declared.header_parts.Shape.{Shape}
 use Rattle.esri_hdr.specs.declared.header_parts.Rows.{Rows}
 use Rattle.esri_hdr.specs.Lines.{Values, last_of}
-use Rattle.esri_hdr.specs.Values.{side_in, bands_in, bits_in, big_endian_in, layout_in, skip_in, signed_in, kind_of}
+use Rattle.esri_hdr.specs.Values.{side_in, bands_in, bits_in, big_endian_in, layout_in, skip_in, signed_in}
+use Rattle.esri_hdr.specs.Values.{type_of_bits}
 use Rattle.esri_hdr.specs.Values.{band_row_in, total_row_in, gap_in, BandRowFits, TotalRowFits, GapFits, longest_gap}
 use Rattle.esri_hdr.specs.Keys as keys
 use Rattle.geotransform.specs.Limits.{most_bands, most_side, unit_limit}
@@ -113,14 +114,14 @@ head_from s r geo nodata = record {
     h = s.h;
   };
   bands = s.bands;
-  kind = kind_of s.bits s.signed;
+  kind = type_of_bits s.bits s.signed;
   big = s.big;
   layout = s.layout;
   skip = s.skip;
   band_row = r.band_row;
   total_row = r.total_row;
   gap = r.gap;
-  nodata = nodata_in (kind_of s.bits s.signed) nodata;
+  nodata = nodata_in (type_of_bits s.bits s.signed) nodata;
   geo = geo;
 }
 
@@ -142,7 +143,7 @@ esri_head text = if nat_lt longest_header (length text) then Err Limit else head
 
 -- the bytes of a sample
 abbrev pub sample_len : PixelType → ℕ
-sample_len kind = bytes_of kind
+sample_len kind = byte_count kind
 
 -- the rules of the row lengths and the gap, by the layout, the number of bands and the bytes of a band's row
 abbrev pub RowsFit : Layout → ℕ → ℕ → Rows → Type 0

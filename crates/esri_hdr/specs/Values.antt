@@ -27,8 +27,8 @@ abbrev pub at_most : ℕ → ℕ → Result ℕ HdrFault
 at_most limit n = if nat_lt limit n then Err Limit else Ok n
 
 -- from 1 to the limit
-abbrev pub counted : ℕ → ℕ → Result ℕ HdrFault
-counted limit n = if n == 0 then Err BadValue else at_most limit n
+abbrev pub count_within : ℕ → ℕ → Result ℕ HdrFault
+count_within limit n = if n == 0 then Err BadValue else at_most limit n
 
 -- one to 18 digits
 abbrev pub number_in : List ℕ → Result ℕ HdrFault
@@ -43,13 +43,13 @@ number_or default (Some text) = number_in text
 unfoldable pub side_in : List ℕ → Result ℕ HdrFault
 side_in text = do
   n ← number_in text
-  counted most_side n
+  count_within most_side n
 
 -- NBANDS
 unfoldable pub bands_in : Option (List ℕ) → Result ℕ HdrFault
 bands_in text = do
   n ← number_or 1 text
-  counted most_bands n
+  count_within most_bands n
 
 -- NBITS
 unfoldable pub bits_in : Option (List ℕ) → Result ℕ HdrFault
@@ -105,8 +105,8 @@ signed_in bits (Some text) nodata = if same_letters text (codes "SIGNEDINT") the
     else (if same_letters text (codes "FLOAT") then Err Unsupported else Err BadValue))
 
 -- the type of samples of so many bits
-unfoldable pub kind_of : ℕ → Bool → PixelType
-kind_of bits signed = if bits == 8 then (if signed then Int8 else Byte)
+unfoldable pub type_of_bits : ℕ → Bool → PixelType
+type_of_bits bits signed = if bits == 8 then (if signed then Int8 else Byte)
     else (if bits == 16 then (if signed then Int16 else UInt16)
     else (if bits == 32 then (if signed then Int32 else UInt32) else (if signed then Int64 else UInt64)))
 

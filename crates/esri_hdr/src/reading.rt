@@ -18,8 +18,8 @@ use crate::keys::{
 };
 use crate::lines::scan;
 use crate::values::{
-    band_row_in, bands_in, big_endian_in, bits_in, gap_in, kind_of, layout_in, side_in, signed_in,
-    skip_in, total_row_in,
+    band_row_in, bands_in, big_endian_in, bits_in, gap_in, layout_in, side_in, signed_in, skip_in,
+    total_row_in, type_of_bits,
 };
 use geotransform::{PixelType, Sample, Size, Ticks, read_decimal, read_whole, when_in};
 
@@ -166,7 +166,7 @@ fn head_from(shape: &Shape, rows: &Rows, geo: Option<RawGeo>, nodata: Option<&[u
     requires geo { IfSome geo GeoFits }
     ensures { result ≡ head_from shape.now rows.now geo (option_map (λ v. v.now) nodata.entry) }
 {
-    let kind = kind_of(shape.bits, shape.signed);
+    let kind = type_of_bits(shape.bits, shape.signed);
     RawHead {
         size: Size {
             w: shape.w,

@@ -1,8 +1,9 @@
 // What the value of a key means, key by key.
 ghost use Rattle.std.specs.Prelude.{◌⊎◌, ◌≡◌, ℕ, ◌<◌, ◌≤◌, ◌+◌, ◌*◌, ◌/◌, ◌^◌, IfOk, Option};
 ghost use Rattle.std.specs.Option.{option_map};
-ghost use Rattle.esri_hdr.specs.Values.{number_in, number_or, at_most, counted, side_in, bands_in, bits_in, order_of};
-ghost use Rattle.esri_hdr.specs.Values.{big_endian_in, layout_in, skip_in, is_negative, signed_in, kind_of, row_in};
+ghost use Rattle.esri_hdr.specs.Values.{number_in, number_or, at_most, count_within, side_in, bands_in, bits_in};
+ghost use Rattle.esri_hdr.specs.Values.{big_endian_in, layout_in, skip_in, is_negative, signed_in, type_of_bits};
+ghost use Rattle.esri_hdr.specs.Values.{order_of, row_in};
 ghost use Rattle.esri_hdr.specs.Values.{band_row_in, total_row_in, gap_in, BandRowFits, TotalRowFits, GapFits};
 ghost use Rattle.esri_hdr.specs.Values.{longest_row, longest_gap};
 ghost use Rattle.geotransform.specs.Limits.{most_bands, most_side};
@@ -43,8 +44,8 @@ fn at_most(limit: u64, n: u64) -> Result<u64, HdrFault>
     }
 }
 
-fn counted(limit: u32, n: u64) -> Result<u32, HdrFault>
-    ensures value { result ≡ counted limit n }
+fn count_within(limit: u32, n: u64) -> Result<u32, HdrFault>
+    ensures value { result ≡ count_within limit n }
     ensures bound { IfOk result (λ x. (0 < x) × (x ≤ limit)) }
 {
     if n == 0 {
@@ -58,7 +59,7 @@ pub fn side_in(text: &[u8]) -> Result<u32, HdrFault>
     ensures value { result ≡ side_in text.now }
     ensures bound { IfOk result (λ n. (0 < n) × (n ≤ most_side)) }
 {
-    counted(MOST_SIDE, number_in(text)?)
+    count_within(MOST_SIDE, number_in(text)?)
 }
 
 #[tactic(auto, unfolding(crate::specs::Values::bands_in))]
@@ -66,7 +67,7 @@ pub fn bands_in(text: Option<&[u8]>) -> Result<u32, HdrFault>
     ensures value { result ≡ bands_in (option_map (λ v. v.now) text.entry) }
     ensures bound { IfOk result (λ n. (0 < n) × (n ≤ most_bands)) }
 {
-    counted(MOST_BANDS, number_or(1, text)?)
+    count_within(MOST_BANDS, number_or(1, text)?)
 }
 
 #[tactic(auto, unfolding(crate::specs::Values::bits_in))]
@@ -158,9 +159,9 @@ pub fn signed_in(bits: u32, text: Option<&[u8]>, nodata: Option<&[u8]>) -> Resul
     Err(HdrFault::BadValue)
 }
 
-#[tactic(auto, unfolding(crate::specs::Values::kind_of))]
-pub fn kind_of(bits: u32, signed: bool) -> PixelType
-    ensures { result ≡ kind_of bits signed }
+#[tactic(auto, unfolding(crate::specs::Values::type_of_bits))]
+pub fn type_of_bits(bits: u32, signed: bool) -> PixelType
+    ensures { result ≡ type_of_bits bits signed }
 {
     match (bits, signed) {
         (8, true) => PixelType::Int8,

@@ -149,7 +149,7 @@ fn covers(rt: HostRuntime) {
 }
 
 /// The covered columns of a document's source.
-fn run_of(document: &Document, mosaic: u32, size: u32) -> Option<Run> {
+fn covered_run(document: &Document, mosaic: u32, size: u32) -> Option<Run> {
     let source = first_source(document)?;
     if mosaic == 0 || size == 0 {
         return None;
@@ -181,7 +181,7 @@ fn is_run(alloc: Global, row: &str) -> Option<bool> {
     let (mosaic, rest) = count(rest)?;
     let (size, rectangles) = count(rest)?;
     let document = placed(alloc, rectangles)?;
-    let run = run_of(&document, mosaic, size)?;
+    let run = covered_run(&document, mosaic, size)?;
     Some(run.first == first && run.end == end && is_shift(run.shift, shift))
 }
 

@@ -4,7 +4,7 @@ use Rattle.std.proofs.lemmas.List.{append-nil, take-append-le}
 use Rattle.std.proofs.Math.Seq.{take-append-add}
 use Rattle.outside.specs.Outside.{Files}
 use Rattle.outside.specs.Streams.{Gets, GetsPart}
-use Rattle.error_lines.specs.Steps.{Step, Prints, Warns, Publishes, prints, printed, warned, published, cut, applied, AreDone}
+use Rattle.error_lines.specs.Steps.{Step, Prints, Warns, Publishes, prints, printed, warned, published, cut_short, applied, AreDone}
 
 -- texts that are put one after another
 pub printed_prints : {T : Type 0} (f : T → List ℕ) (xs : List T) → printed (prints (map f xs)) ≡ flat_map f xs
@@ -18,27 +18,27 @@ pub prints_published : (texts : List (List ℕ)) → published (prints texts) �
 prints_published [] = refl
 prints_published (text ∷ texts) = prints_published texts
 
-cut_published : (n k : ℕ) (texts : List (List ℕ)) → published (cut n k (prints texts)) ≡ []
+cut_published : (n k : ℕ) (texts : List (List ℕ)) → published (cut_short n k (prints texts)) ≡ []
 cut_published zero k [] = refl
 cut_published zero k (text ∷ texts) = refl
 cut_published (suc n) k [] = refl
 cut_published (suc n) k (text ∷ texts) = cut_published n k texts
 
 -- nothing is begun
-pub cut_none : (steps : List Step) → (printed (cut 0 0 steps) ≡ []) × (published (cut 0 0 steps) ≡ [])
+pub cut_none : (steps : List Step) → (printed (cut_short 0 0 steps) ≡ []) × (published (cut_short 0 0 steps) ≡ [])
 cut_none [] = (refl, refl)
 cut_none (Prints text ∷ steps) = (refl, refl)
 cut_none (Warns line ∷ steps) = (refl, refl)
 cut_none (Publishes name bytes ∷ steps) = (refl, refl)
 
-pub cut_silent : (steps : List Step) → warned (cut 0 0 steps) ≡ []
+pub cut_silent : (steps : List Step) → warned (cut_short 0 0 steps) ≡ []
 cut_silent [] = refl
 cut_silent (Prints text ∷ steps) = refl
 cut_silent (Warns line ∷ steps) = refl
 cut_silent (Publishes name bytes ∷ steps) = refl
 
 abbrev Cuts : ℕ → List (List ℕ) → Type 0
-Cuts j texts = (n : ℕ) × (k : ℕ) × (take j (printed (prints texts)) ≡ printed (cut n k (prints texts)))
+Cuts j texts = (n : ℕ) × (k : ℕ) × (take j (printed (prints texts)) ≡ printed (cut_short n k (prints texts)))
 
 take_none : (j : ℕ) → take {A = ℕ} j [] ≡ []
 take_none zero = refl
@@ -65,7 +65,7 @@ first_part j (text ∷ texts) = by (split (length text) j) (λ i. first_part i t
         (suc more.0, more.1, ap (λ (n : ℕ). take n (text ++ printed (prints texts))) rest.1 ∙ take-append-add text (printed (prints texts)) rest.0 ∙ ap (λ (t : List ℕ). text ++ t) more.2)
 
 -- a whole list of steps is its own first part
-pub cut_whole : (k : ℕ) (steps : List Step) → cut (length steps) k steps ≡ steps
+pub cut_whole : (k : ℕ) (steps : List Step) → cut_short (length steps) k steps ≡ steps
 cut_whole k [] = refl
 cut_whole k (step ∷ steps) = ap (λ (s : List Step). step ∷ s) (cut_whole k steps)
 
@@ -76,7 +76,7 @@ prints_done texts m names before after same got = record {
   published = same ∙ ap (λ (files : List (List ℕ × List ℕ)). Some (applied files m)) (sym (prints_published texts));
 }
 
-pub prints_cut : (texts : List (List ℕ)) (m : Files) (names : Option Files) (before after : Option (List ℕ)) → names ≡ Some m → GetsPart (printed (prints texts)) before after → (n : ℕ) × (k : ℕ) × AreDone (cut n k (prints texts)) m names before after
+pub prints_cut : (texts : List (List ℕ)) (m : Files) (names : Option Files) (before after : Option (List ℕ)) → names ≡ Some m → GetsPart (printed (prints texts)) before after → (n : ℕ) × (k : ℕ) × AreDone (cut_short n k (prints texts)) m names before after
 prints_cut texts m names None after same got = (
   0,
   0,
@@ -91,7 +91,7 @@ prints_cut texts m names (Some old) after same got =
       at.0,
       at.1,
       record {
-        printed = λ g is. let one : old ≡ g = cc in part.1 ∙ ap (λ (t : List ℕ). Some (old ++ t)) at.2 ∙ ap (λ (o : List ℕ). Some (o ++ printed (cut at.0 at.1 (prints texts)))) one;
+        printed = λ g is. let one : old ≡ g = cc in part.1 ∙ ap (λ (t : List ℕ). Some (old ++ t)) at.2 ∙ ap (λ (o : List ℕ). Some (o ++ printed (cut_short at.0 at.1 (prints texts)))) one;
         published = same ∙ ap (λ (files : List (List ℕ × List ℕ)). Some (applied files m)) (sym (cut_published at.0 at.1 texts));
       },
     )

@@ -10,7 +10,7 @@ use Rattle.error_lines.specs.declared.faults.Fault.TheVariants.{Usage, Absent, N
 use Rattle.error_lines.specs.Faults.{IsOutside, HasCauses, fault_status, status_of}
 use Rattle.translation_runs.specs.Ends.{ended}
 use Rattle.gdal_cli.specs.Run.{Ends, Answers, IsRefusal}
-use Rattle.error_lines.specs.Steps.{Step, Done, prints, printed, applied, cut, IsFirstPart, AreDone, Goes}
+use Rattle.error_lines.specs.Steps.{Step, Done, prints, printed, applied, cut_short, IsFirstPart, AreDone, Goes}
 use Rattle.gdal_cli.proofs.Cuts.{cut_none, cut_whole, prints_cut, prints_done}
 
 -- a fault of the outside ends a run with status 2 or 3
@@ -35,7 +35,7 @@ outside_status OutFault out = omega arith
 outside_status Memory out = omega arith
 
 -- nothing was done
-pub nothing_done : (steps : List Step) (m : Files) (names : Option Files) (old : Option (List ℕ)) → names ≡ Some m → AreDone (cut 0 0 steps) m names old old
+pub nothing_done : (steps : List Step) (m : Files) (names : Option Files) (old : Option (List ℕ)) → names ≡ Some m → AreDone (cut_short 0 0 steps) m names old old
 nothing_done steps m names old is =
     let none = cut_none steps in
     record {
@@ -45,7 +45,7 @@ nothing_done steps m names old is =
 
 -- the outside failed before the first step, or the run was refused
 pub goes_nowhere : (r : Done) (m : Files) (f : Fault) (names : Option Files) (old : Option (List ℕ)) → names ≡ Some m → IsOutside f → Goes r m (Err f) names old old
-goes_nowhere r m f names old is out = inr (out, (cut 0 0 r.steps, (0, 0, refl), nothing_done r.steps m names old is))
+goes_nowhere r m f names old is out = inr (out, (cut_short 0 0 r.steps, (0, 0, refl), nothing_done r.steps m names old is))
 
 -- where the texts of a run that prints were put, its steps were done
 pub printing_goes : (r : Done) (texts : List (List ℕ)) (result : Result (Unit {0}) Fault) (m : Files) (names : Option Files) (before after : Option (List ℕ)) → r.steps ≡ prints texts → names ≡ Some m → Ends r result before after → Goes r m result names before after
@@ -57,7 +57,7 @@ printing_goes r texts result m names before after steps is ends = by result ends
     some : GetsPart (printed r.steps) before after → (part : List Step) × IsFirstPart part r.steps × AreDone part m names before after
     some got =
         let at = prints_cut texts m names before after is (subst (λ (s : List Step). GetsPart (printed s) before after) steps got) in
-        (cut at.0 at.1 r.steps, (at.0, at.1, refl), subst (λ (s : List Step). AreDone (cut at.0 at.1 s) m names before after) (sym steps) at.2)
+        (cut_short at.0 at.1 r.steps, (at.0, at.1, refl), subst (λ (s : List Step). AreDone (cut_short at.0 at.1 s) m names before after) (sym steps) at.2)
 
     by : (e : Result (Unit {0}) Fault) → Ends r e before after → Goes r m e names before after
     by (Ok done) h = (h.0, all h.1)

@@ -6,7 +6,7 @@ use Rattle.outside.specs.Streams.{Gets, GetsPart}
 use Rattle.outside.proofs.Sinks.{gets-then, gets-then-part, part-first}
 use Rattle.error_lines.specs.declared.faults.Fault.{Fault}
 use Rattle.error_lines.specs.Faults.{IsOutside, status_of}
-use Rattle.error_lines.specs.Steps.{Step, Done, cut, prints, warned, AreDone, AreWarned, Goes, GoesWarning, IsFirstPart}
+use Rattle.error_lines.specs.Steps.{Step, Done, cut_short, prints, warned, AreDone, AreWarned, Goes, GoesWarning, IsFirstPart}
 use Rattle.error_lines.specs.Texts.{error_line_of}
 use Rattle.error_lines.proofs.Silent.{goes_with, prints_silent}
 use Rattle.error_lines.proofs.Warned.{none_warned}
@@ -24,7 +24,7 @@ goes_of r m (Err f) names before after W (inr h) = inr (h.0, (h.1.0, h.1.1, h.1.
 
 -- the outside failed before the first step
 pub nowhere_warned : (r : Done) (m : Files) (f : Fault) (names : Option Files) (old : Option (List ℕ)) (W : List Step → Type 0) → names ≡ Some m → IsOutside f → ((part : List Step) → warned part ≡ [] → W part) → GoesWarning r m (Err f) names old old W
-nowhere_warned r m f names old W is out holds = inr (out, (cut 0 0 r.steps, (0, 0, refl), nothing_done r.steps m names old is, holds (cut 0 0 r.steps) (cut_silent r.steps)))
+nowhere_warned r m f names old W is out holds = inr (out, (cut_short 0 0 r.steps, (0, 0, refl), nothing_done r.steps m names old is, holds (cut_short 0 0 r.steps) (cut_silent r.steps)))
 
 -- the same of another way to say the run
 pub warning_as : (r q : Done) (m : Files) (result : Result (Unit {0}) Fault) (names : Option Files) (before after : Option (List ℕ)) (W : List Step → Type 0) → GoesWarning r m result names before after W → r ≡ q → GoesWarning q m result names before after W

@@ -21,7 +21,7 @@ pub record IsReading (r : Reading) : Type 0 where
 
 -- how much more a reading can take at the most, of lines that aren't too long
 abbrev pub room_of : Reading → ℕ
-room_of r = (16777218 - r.line) * 4098 - length r.held
+room_of r = (most_lines + 2 - r.line) * (longest_line + 2) - length r.held
 
 -- These lines ended while a reading came from one text to the rest of it, and none of them ends the reading.
 pub record Passed (old : Reading) (text : List ℕ) (new : Reading) (rest : List ℕ) (given : List Entry) : Type 0 where

@@ -7,7 +7,7 @@ use Rattle.lists_and_answers.specs.Options.{◌>>=◌}
 use Rattle.geotransform.specs.Print.{unit}
 use Rattle.geotransform.specs.Places.{IsFloor}
 use Rattle.geotransform.specs.Geo.{Transform, is_north_up}
-use Rattle.geotransform.specs.Degrees.{degrees, degree_near, in_range, when_between, degree_between, IsAt}
+use Rattle.geotransform.specs.Degrees.{degrees, degree_near, in_range, when_between, degree_between, IsAtDegree}
 use Rattle.geotransform.proofs.Floors.{floor_only}
 
 -- a thousandth of so many ticks, cut down, tells as much as the ticks
@@ -17,7 +17,7 @@ thousandth_is w n = grind (arith, nat_tests)
 in_range_is : (limit : ℕ) (d e : ℤ) → in_range limit d ≡ Some e → (d ≡ e) × (neg_ℤ (pos limit) ≤ℤ e) × (e <ℤ pos limit)
 in_range_is limit d e h = grind (arith, nat_tests, ints)
 
-when_is : (spacing : ℕ) (first second d e : ℤ) → when_between spacing first second d ≡ Some e → (d ≡ e) × IsAt spacing first e × IsAt spacing second (e +ℤ pos 1)
+when_is : (spacing : ℕ) (first second d e : ℤ) → when_between spacing first second d ≡ Some e → (d ≡ e) × IsAtDegree spacing first e × IsAtDegree spacing second (e +ℤ pos 1)
 when_is spacing first second d e h = grind (arith, nat_tests, ints)
 
 pub up_is : (g : Transform) → is_north_up g ≡ true → (pos 0 <ℤ g.dx) × (g.dy <ℤ pos 0)
@@ -26,7 +26,7 @@ up_is g h = grind (arith, nat_tests, ints)
 in_range_made : (limit : ℕ) (d : ℤ) → neg_ℤ (pos limit) ≤ℤ d → d <ℤ pos limit → in_range limit d ≡ Some d
 in_range_made limit d low high = grind (arith, nat_tests, ints)
 
-when_made : (spacing : ℕ) (first second d : ℤ) → IsAt spacing first d → IsAt spacing second (d +ℤ pos 1) → when_between spacing first second d ≡ Some d
+when_made : (spacing : ℕ) (first second d : ℤ) → IsAtDegree spacing first d → IsAtDegree spacing second (d +ℤ pos 1) → when_between spacing first second d ≡ Some d
 when_made spacing first second d a b = grind (arith, nat_tests)
 
 pub up_made : (g : Transform) → pos 0 <ℤ g.dx → g.dy <ℤ pos 0 → is_north_up g ≡ true
@@ -45,7 +45,7 @@ low_by v m h = omega (arith, ints)
 high_by : (v m : ℤ) → 1000 * unsigned_abs (v -ℤ m) < 1000 * unit → (v +ℤ pos unit) <ℤ (m +ℤ pos (2 * unit))
 high_by v m h = omega (arith, ints)
 
-floor_bounds : (spacing : ℕ) (v d : ℤ) → 2 * spacing < 1000 * unit → IsAt spacing v d → IsFloor (v +ℤ pos unit) (pos (2 * unit)) d
+floor_bounds : (spacing : ℕ) (v d : ℤ) → 2 * spacing < 1000 * unit → IsAtDegree spacing v d → IsFloor (v +ℤ pos unit) (pos (2 * unit)) d
 floor_bounds spacing v d small at =
     let close : 1000 * unsigned_abs (v -ℤ pos 2 *ℤ degrees d) < 1000 * unit = omega (arith, small, at) in
     let low : (d *ℤ pos (2 * unit)) ≤ℤ (v +ℤ pos unit) = rw (sym (twice_degrees d)) (low_by v (pos 2 *ℤ degrees d) close) in
@@ -53,7 +53,7 @@ floor_bounds spacing v d small at =
     record { positive = λ h. (low, rw (next_degree d) high); negative = λ h. absurd (omega (arith, ints)) }
 
 -- the degree at which a centre is, is the nearest one
-pub near_is : (spacing : ℕ) (v d : ℤ) → 2 * spacing < 1000 * unit → IsAt spacing v d → degree_near v ≡ d
+pub near_is : (spacing : ℕ) (v d : ℤ) → 2 * spacing < 1000 * unit → IsAtDegree spacing v d → degree_near v ≡ d
 near_is spacing v d small at = floor_only (v +ℤ pos unit) (pos (2 * unit)) d (λ e. absurd (omega (arith, ints))) (floor_bounds spacing v d small at)
 
 -- what the first answer was, and the second one from it
@@ -72,8 +72,8 @@ bind_made m f a r e h = ap (λ (x : Option _). x >>= f) e ∙ h
 pub record IsBetween (spacing limit : ℕ) (v w d : ℤ) : Type 0 where
   pub least : neg_ℤ (pos limit) ≤ℤ d
   pub most : d <ℤ pos limit
-  pub here : IsAt spacing v d
-  pub next : IsAt spacing w (d +ℤ pos 1)
+  pub here : IsAtDegree spacing v d
+  pub next : IsAtDegree spacing w (d +ℤ pos 1)
 
 pub between_is : (spacing limit : ℕ) (v w d : ℤ) → degree_between spacing limit v w ≡ Some d → IsBetween spacing limit v w d
 between_is spacing limit v w d h =
@@ -89,5 +89,5 @@ between_made spacing limit v w d small b =
     (when_made spacing v w d b.here b.next)
 
 -- a place at a degree to the tick
-pub exact_at : (spacing : ℕ) (v d : ℤ) → v ≡ pos 2 *ℤ degrees d → IsAt spacing v d
+pub exact_at : (spacing : ℕ) (v d : ℤ) → v ≡ pos 2 *ℤ degrees d → IsAtDegree spacing v d
 exact_at spacing v d e = rw e (omega (arith, ints))

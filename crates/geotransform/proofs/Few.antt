@@ -13,7 +13,7 @@ use Rattle.std.proofs.lemmas.Int.{ints}
 use Rattle.std.proofs.lemmas.List.Sums.{fold-append, prefix_len_stops}
 use Rattle.lists_and_answers.specs.Options.{◌>>=◌}
 use Rattle.geotransform.specs.Decimal.{number, half_up, scaled, signed, short_number, Decimal, sign_at, digits_at, fraction_at, exponent_of, with_digits, parts_of, magnitude, magnitude_at, near_at, ticks_of, places_of}
-use Rattle.geotransform.specs.Parts.{brief, limited, counted}
+use Rattle.geotransform.specs.Parts.{brief, limited, counted_digits}
 use Rattle.geotransform.proofs.Numbers.{half_le, number_short, all_taken}
 use Rattle.geotransform.proofs.RoundTrip.{digits-cons}
 use Rattle.geotransform.proofs.Fewer.{scaled_le}
@@ -92,18 +92,18 @@ no_short digits less =
     let none : (nat_lt 0 (length digits) && (nat_le (length digits) 3 && list_all is_ascii_digit digits)) ≡ false = grind (arith, stop) in
     ap (λ b. cond b (Some (pos (number digits))) None) (sym none)
 
-pub fraction_is : (digits : List ℕ) (front k : ℕ) → k ≡ prefix_len is_ascii_digit digits → k ≢ 0 → k ≤ length digits → option_map (counted front) (fraction_at (46 ∷ digits)) ≡ Some (k, (fold step front (take k digits), drop k digits))
+pub fraction_is : (digits : List ℕ) (front k : ℕ) → k ≡ prefix_len is_ascii_digit digits → k ≢ 0 → k ≤ length digits → option_map (counted_digits front) (fraction_at (46 ∷ digits)) ≡ Some (k, (fold step front (take k digits), drop k digits))
 fraction_is digits front k is some within =
     let more : (prefix_len is_ascii_digit digits == 0) ≡ false = grind (arith, nat_tests, is) in
     let count : length (take k digits) ≡ k = omega (arith, length-take k digits) in
-    ap (λ b. option_map (counted front) (cond b None (Some (digits_at digits)))) more
-    ∙ ap (λ j. Some (counted front (take j digits, drop j digits))) (sym is)
+    ap (λ b. option_map (counted_digits front) (cond b None (Some (digits_at digits)))) more
+    ∙ ap (λ j. Some (counted_digits front (take j digits, drop j digits))) (sym is)
     ∙ ap (λ n. Some (n, (fold step front (take k digits), drop k digits))) count
 
-few_behind : (o : Option (List ℕ × List ℕ)) (negative : Bool) (whole : List ℕ) (k m : ℕ) (rest : List ℕ) (e : ℤ) → option_map (counted (number whole)) o ≡ Some (k, (m, rest)) → exponent_of rest ≡ Some e → length whole + k ≢ 0 → option_map brief (o >>= λ f. exponent_of f.1 >>= λ e. with_digits negative whole f.0 e) ≡ Some (negative, (m, e -ℤ pos k))
+few_behind : (o : Option (List ℕ × List ℕ)) (negative : Bool) (whole : List ℕ) (k m : ℕ) (rest : List ℕ) (e : ℤ) → option_map (counted_digits (number whole)) o ≡ Some (k, (m, rest)) → exponent_of rest ≡ Some e → length whole + k ≢ 0 → option_map brief (o >>= λ f. exponent_of f.1 >>= λ e. with_digits negative whole f.0 e) ≡ Some (negative, (m, e -ℤ pos k))
 few_behind None negative whole k m rest e h is some = absurd (cc)
 few_behind (Some f) negative whole k m rest e h is some =
-    let same : counted (number whole) f ≡ (k, (m, rest)) = cc in
+    let same : counted_digits (number whole) f ≡ (k, (m, rest)) = cc in
     let a : length f.0 ≡ k = ap (λ (t : ℕ × (ℕ × List ℕ)). t.0) same in
     let b : fold step (number whole) f.0 ≡ m = ap (λ (t : ℕ × (ℕ × List ℕ)). t.1.0) same in
     let c : f.1 ≡ rest = ap (λ (t : ℕ × (ℕ × List ℕ)). t.1.1) same in
@@ -123,12 +123,12 @@ unfolding parts_of
 starts text = refl
 
 -- the parts of a text whose digits were read
-pub few_are : (text : List ℕ) (s : Bool × List ℕ) (w n k m : ℕ) (rest : List ℕ) (e : ℤ) → s ≡ sign_at text → length text ≤ 64 → w ≡ prefix_len is_ascii_digit s.1 → w ≤ length s.1 → n ≡ fold step 0 (take w s.1) → option_map (counted n) (fraction_at (drop w s.1)) ≡ Some (k, (m, rest)) → exponent_of rest ≡ Some e → w + k ≢ 0 → option_map brief (parts_of text) ≡ Some (s.0, (m, e -ℤ pos k))
+pub few_are : (text : List ℕ) (s : Bool × List ℕ) (w n k m : ℕ) (rest : List ℕ) (e : ℤ) → s ≡ sign_at text → length text ≤ 64 → w ≡ prefix_len is_ascii_digit s.1 → w ≤ length s.1 → n ≡ fold step 0 (take w s.1) → option_map (counted_digits n) (fraction_at (drop w s.1)) ≡ Some (k, (m, rest)) → exponent_of rest ≡ Some e → w + k ≢ 0 → option_map brief (parts_of text) ≡ Some (s.0, (m, e -ℤ pos k))
 few_are text s w n k m rest e sign short count within is fraction exponent some =
     let small : nat_lt 64 (length text) ≡ false = grind (arith, nat_tests) in
     let whole : List ℕ = take w s.1 in
     let long : length whole ≡ w = omega (arith, length-take w s.1) in
-    let front : option_map (counted (number whole)) (fraction_at (drop w s.1)) ≡ Some (k, (m, rest)) = subst (λ x. option_map (counted x) (fraction_at (drop w s.1)) ≡ Some (k, (m, rest))) is fraction in
+    let front : option_map (counted_digits (number whole)) (fraction_at (drop w s.1)) ≡ Some (k, (m, rest)) = subst (λ x. option_map (counted_digits x) (fraction_at (drop w s.1)) ≡ Some (k, (m, rest))) is fraction in
     ap (option_map brief) (starts text
     ∙ ap (λ (t : Bool × List ℕ). behind_sign (length text) t.0 (digits_at t.1)) (sym sign)
     ∙ ap (λ j. behind_sign (length text) s.0 (take j s.1, drop j s.1)) (sym count)

@@ -6,10 +6,10 @@ use Rattle.std.proofs.lemmas.Int.{ints}
 use Rattle.std.proofs.lemmas.Bool.Decides.{nat_tests}
 use Rattle.geotransform.specs.declared.types.PixelType.{PixelType}
 use Rattle.geotransform.specs.declared.types.PixelType.TheVariants.{Byte, Int8, UInt16, Int16, UInt32, Int32, UInt64, Int64}
-use Rattle.geotransform.specs.Types.{bytes_of, is_in, clamp}
+use Rattle.geotransform.specs.Types.{byte_count, is_in, clamp}
 
 -- a sample has one to eight bytes
-pub bytes_bounds : (kind : PixelType) → (1 ≤ bytes_of kind) × (bytes_of kind ≤ 8)
+pub bytes_bounds : (kind : PixelType) → (1 ≤ byte_count kind) × (byte_count kind ≤ 8)
 bytes_bounds Byte = (omega arith, omega arith)
 bytes_bounds Int8 = (omega arith, omega arith)
 bytes_bounds UInt16 = (omega arith, omega arith)

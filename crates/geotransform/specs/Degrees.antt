@@ -20,8 +20,8 @@ abbrev pub degree_near : ℤ → ℤ
 degree_near twice = floor_of (twice +ℤ pos unit) (pos (2 * unit))
 
 -- whether half of so many ticks is within a thousandth of a spacing of a whole degree
-abbrev pub is_at : ℕ → ℤ → ℤ → Bool
-is_at spacing twice degree = nat_le (1000 * unsigned_abs (twice -ℤ pos 2 *ℤ degrees degree)) (2 * spacing)
+abbrev pub is_at_degree : ℕ → ℤ → ℤ → Bool
+is_at_degree spacing twice degree = nat_le (1000 * unsigned_abs (twice -ℤ pos 2 *ℤ degrees degree)) (2 * spacing)
 
 -- a degree from -limit on and below the limit
 abbrev pub in_range : ℕ → ℤ → Option ℤ
@@ -29,7 +29,7 @@ in_range limit d = if int_le (neg_ℤ (pos limit)) d && int_lt d (pos limit) the
 
 -- whether one centre is at a degree and the other at the next
 abbrev pub are_at : ℕ → ℤ → ℤ → ℤ → Bool
-are_at spacing first second d = is_at spacing first d && is_at spacing second (d +ℤ pos 1)
+are_at spacing first second d = is_at_degree spacing first d && is_at_degree spacing second (d +ℤ pos 1)
 
 -- a degree, where one centre is at it and the other at the next
 abbrev pub when_between : ℕ → ℤ → ℤ → ℤ → Option ℤ
@@ -67,5 +67,5 @@ or_unfit None = Err (record {})
 or_unfit (Some x) = Ok x
 
 -- half of so many ticks is within a thousandth of a spacing of a whole degree
-abbrev pub IsAt : ℕ → ℤ → ℤ → Type 0
-IsAt spacing twice degree = 1000 * unsigned_abs (twice -ℤ pos 2 *ℤ degrees degree) ≤ 2 * spacing
+abbrev pub IsAtDegree : ℕ → ℤ → ℤ → Type 0
+IsAtDegree spacing twice degree = 1000 * unsigned_abs (twice -ℤ pos 2 *ℤ degrees degree) ≤ 2 * spacing

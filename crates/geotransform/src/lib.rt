@@ -27,4 +27,6 @@ pub use rounding::{floor_is_exact, floor_of, half, half_is_nearest, is_near, rou
 pub use sizes::{is_north_up, sizes_held};
 pub use types::{PixelType, Rect, Sample, Size, clamp, holds, name_reads_back, when_in};
 pub use units::Ticks;
-pub use whole_degrees::{degree_near, degrees, is_at, lat_of, lon_of, twice_centre, twice_south};
+pub use whole_degrees::{
+    degree_near, degrees, is_at_degree, lat_of, lon_of, twice_centre, twice_south,
+};

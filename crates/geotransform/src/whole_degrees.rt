@@ -2,7 +2,7 @@
 ghost use Rattle.std.specs.Prelude.{◌≡◌, ◌<◌, ◌≤◌, ◌^◌, ◌*◌, ◌/◌, ℤ, pos, ◌+ℤ◌, ◌-ℤ◌, ◌*ℤ◌, ◌<ℤ◌, ◌≤ℤ◌, IfSome};
 ghost use Rattle.std.specs.Prelude.{unsigned_abs};
 ghost use Rattle.geotransform.specs.Geo.{IsNear};
-ghost use Rattle.geotransform.specs.Degrees.{degrees, twice_centre, degree_near, is_at, in_range, are_at};
+ghost use Rattle.geotransform.specs.Degrees.{degrees, twice_centre, degree_near, is_at_degree, in_range, are_at};
 ghost use Rattle.geotransform.specs.Degrees.{degree_between, twice_west, twice_east, twice_south, twice_north, lon_of};
 ghost use Rattle.geotransform.specs.Degrees.{lat_of};
 ghost use Rattle.geotransform.specs.Limits.{most_side, most_steps};
@@ -106,10 +106,10 @@ fn twice_thousandth(spacing: u64) -> u128
 
 /// Whether half of so many ticks is within a thousandth of a spacing of a whole degree.
 #[tactic(auto, using(crate::proofs::Centres::thousandth_is))]
-pub fn is_at(spacing: u64, twice: i128, degree: i32) -> bool
+pub fn is_at_degree(spacing: u64, twice: i128, degree: i32) -> bool
     requires twice { unsigned_abs twice ≤ 2 * 10 ^ 37 }
     requires degree { unsigned_abs degree ≤ 181 }
-    ensures at { result ≡ is_at spacing twice degree }
+    ensures at { result ≡ is_at_degree spacing twice degree }
 {
     way(twice, degree) <= twice_thousandth(spacing)
 }
@@ -143,7 +143,7 @@ fn are_at(spacing: u64, first: i128, second: i128, degree: i32) -> bool
     requires degree { unsigned_abs degree ≤ 180 }
     ensures { result ≡ are_at spacing first second degree }
 {
-    is_at(spacing, first, degree) && is_at(spacing, second, next(degree))
+    is_at_degree(spacing, first, degree) && is_at_degree(spacing, second, next(degree))
 }
 
 /// The degree in the limit at which one centre is, where the other is at the next.

@@ -5,7 +5,8 @@ use Rattle.std.specs.Prelude.{if◌then◌else◌}
 use Rattle.lists_and_answers.specs.Options.{◌>>=◌}
 use Rattle.geotransform.specs.Print.{unit}
 use Rattle.geotransform.specs.Geo.{Transform, is_north_up}
-use Rattle.geotransform.specs.Degrees.{degrees, twice_west, twice_east, twice_south, twice_north, lon_of, lat_of, IsAt}
+use Rattle.geotransform.specs.Degrees.{degrees, twice_west, twice_east, twice_south, twice_north, lon_of, lat_of}
+use Rattle.geotransform.specs.Degrees.{IsAtDegree}
 use Rattle.geotransform.specs.declared.types.Size.{Size}
 use Rattle.hgt_tiles.specs.Names.{Place}
 
@@ -49,10 +50,10 @@ pub record IsTile (size : Size) (g : Transform) (p : Place) : Type 0 where
   pub side : IsSide size.w
   pub eastward : pos 0 <ℤ g.dx
   pub southward : g.dy <ℤ pos 0
-  pub west : IsAt (spacing size.w) (twice_west g) p.lon
-  pub east : IsAt (spacing size.w) (twice_east g size.w) (p.lon +ℤ pos 1)
-  pub south : IsAt (spacing size.w) (twice_south g size.w) p.lat
-  pub north : IsAt (spacing size.w) (twice_north g) (p.lat +ℤ pos 1)
+  pub west : IsAtDegree (spacing size.w) (twice_west g) p.lon
+  pub east : IsAtDegree (spacing size.w) (twice_east g size.w) (p.lon +ℤ pos 1)
+  pub south : IsAtDegree (spacing size.w) (twice_south g size.w) p.lat
+  pub north : IsAtDegree (spacing size.w) (twice_north g) (p.lat +ℤ pos 1)
   pub lon_least : negsuc 179 ≤ℤ p.lon
   pub lon_most : p.lon ≤ℤ pos 179
   pub lat_least : negsuc 89 ≤ℤ p.lat

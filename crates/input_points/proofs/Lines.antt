@@ -7,7 +7,7 @@ use Rattle.std.proofs.lemmas.List.{append-nil, length-take-le, length-drop, get_
 use Rattle.std.proofs.lemmas.List.Sums.{prefix_len_passes, prefix_len_stops, list_all-from_AllPass}
 use Rattle.std.proofs.lemmas.List.Splits.{slice_split-cons_no}
 use Rattle.std.proofs.lemmas.Bool.{not-true, not-false, eqb-true, ne_eqb, cases_Bool, and_parts}
-use Rattle.input_points.specs.Lines.{is_inside, lines_but_last, ended_lines, IsLineIn}
+use Rattle.input_points.specs.Lines.{is_in_line, lines_but_last, ended_lines, IsLineIn}
 
 abbrev pub parts : List ℕ → List (List ℕ)
 parts text = slice_split (λ c. c == 10) text
@@ -30,11 +30,11 @@ onto_both c front [] = refl
 onto_both c front (p ∷ ps) = refl
 
 -- a text without a line feed stands in front of the first part of what follows
-pub parts_behind : (front more : List ℕ) → list_all is_inside front ≡ true → parts (front ++ more) ≡ onto front (parts more)
+pub parts_behind : (front more : List ℕ) → list_all is_in_line front ≡ true → parts (front ++ more) ≡ onto front (parts more)
 parts_behind [] more h = onto_none more
 parts_behind (c ∷ cs) more h =
-    slice_split-cons_no (λ c. c == 10) c (cs ++ more) (not-true (c == 10) (and_parts (is_inside c) (list_all is_inside cs) h).0)
-    ∙ ap (onto_first c) (parts_behind cs more (and_parts (is_inside c) (list_all is_inside cs) h).1)
+    slice_split-cons_no (λ c. c == 10) c (cs ++ more) (not-true (c == 10) (and_parts (is_in_line c) (list_all is_in_line cs) h).0)
+    ∙ ap (onto_first c) (parts_behind cs more (and_parts (is_in_line c) (list_all is_in_line cs) h).1)
     ∙ onto_both c cs (parts more)
 
 first_line : (line : List ℕ) (ps : List (List ℕ)) → lines_of_parts (line ∷ onto [] ps) ≡ strip_carriage_return line ∷ lines_of_parts (onto [] ps)
@@ -45,21 +45,21 @@ first_ended : (line : List ℕ) (ps : List (List ℕ)) → lines_but_last (line 
 first_ended line [] = refl
 first_ended line (p ∷ ps) = refl
 
-parts_at : (line more : List ℕ) → list_all is_inside line ≡ true → parts (line ++ 10 ∷ more) ≡ line ∷ onto [] (parts more)
+parts_at : (line more : List ℕ) → list_all is_in_line line ≡ true → parts (line ++ 10 ∷ more) ≡ line ∷ onto [] (parts more)
 parts_at line more h = parts_behind line (10 ∷ more) h ∙ ap (λ (x : List ℕ). x ∷ parts more) (append-nil line) ∙ ap (λ (x : List (List ℕ)). line ∷ x) (onto_none more)
 
 -- a line with its end in front
-pub lines_at : (line more : List ℕ) → list_all is_inside line ≡ true → lines (line ++ 10 ∷ more) ≡ strip_carriage_return line ∷ lines more
+pub lines_at : (line more : List ℕ) → list_all is_in_line line ≡ true → lines (line ++ 10 ∷ more) ≡ strip_carriage_return line ∷ lines more
 lines_at line more h = ap lines_of_parts (parts_at line more h) ∙ first_line line (parts more) ∙ ap (λ (x : List (List ℕ)). strip_carriage_return line ∷ lines_of_parts x) (sym (onto_none more))
 
-pub ended_at : (line more : List ℕ) → list_all is_inside line ≡ true → ended_lines (line ++ 10 ∷ more) ≡ strip_carriage_return line ∷ ended_lines more
+pub ended_at : (line more : List ℕ) → list_all is_in_line line ≡ true → ended_lines (line ++ 10 ∷ more) ≡ strip_carriage_return line ∷ ended_lines more
 ended_at line more h = ap lines_but_last (parts_at line more h) ∙ first_ended line (parts more) ∙ ap (λ (x : List (List ℕ)). strip_carriage_return line ∷ lines_but_last x) (sym (onto_none more))
 
 -- nothing but a line without an end
-pub lines_end : (line : List ℕ) → list_all is_inside line ≡ true → lines (line ++ []) ≡ cond (length line == 0) [] (line ∷ [])
+pub lines_end : (line : List ℕ) → list_all is_in_line line ≡ true → lines (line ++ []) ≡ cond (length line == 0) [] (line ∷ [])
 lines_end line h = ap lines_of_parts (parts_behind line [] h) ∙ ap (λ (x : List ℕ). cond (length x == 0) [] (x ∷ [])) (append-nil line)
 
-pub ended_end : (line : List ℕ) → list_all is_inside line ≡ true → ended_lines (line ++ []) ≡ []
+pub ended_end : (line : List ℕ) → list_all is_in_line line ≡ true → ended_lines (line ++ []) ≡ []
 ended_end line h = ap lines_but_last (parts_behind line [] h)
 
 -- a line loses at most one byte
@@ -85,7 +85,7 @@ first_of (c ∷ cs) [] some = (c ∷ cs, [], one_line c cs, omega arith)
 first_of (c ∷ cs) (p ∷ []) some = ((c ∷ cs) ++ p, [], one_line c (cs ++ p), omega (arith, length-append (c ∷ cs) p))
 first_of (c ∷ cs) (p ∷ (q ∷ ps)) some = (strip_carriage_return ((c ∷ cs) ++ p), lines_of_parts (q ∷ ps), refl, omega (arith, length-append (c ∷ cs) p, strip_length ((c ∷ cs) ++ p)))
 
-pub first_behind : (front more : List ℕ) → list_all is_inside front ≡ true → 0 < length front → FirstLine (length front) (front ++ more)
+pub first_behind : (front more : List ℕ) → list_all is_in_line front ≡ true → 0 < length front → FirstLine (length front) (front ++ more)
 first_behind front more h some =
     let f : (line : List ℕ) × (rest : List (List ℕ)) × (lines_of_parts (onto front (parts more)) ≡ line ∷ rest) × (length front ≤ length line + 1) = first_of front (parts more) some in
     record { line = f.0; more = f.1; are = ap lines_of_parts (parts_behind front more h) ∙ f.2; long = f.3 }
@@ -105,18 +105,18 @@ first_some (c ∷ cs) some =
     (cases_Bool (c == 10))
 
 -- the bytes that were counted
-pub all_inside : (text : List ℕ) (n : ℕ) → n ≡ prefix_len is_inside text → length text ≤ n → list_all is_inside text ≡ true
+pub all_inside : (text : List ℕ) (n : ℕ) → n ≡ prefix_len is_in_line text → length text ≤ n → list_all is_in_line text ≡ true
 all_inside text n is all =
-    list_all-from_AllPass is_inside text (λ k d less. prefix_len_passes is_inside text k d (omega arith))
+    list_all-from_AllPass is_in_line text (λ k d less. prefix_len_passes is_in_line text k d (omega arith))
 
-pub line_in : (text line rest : List ℕ) (n : ℕ) → n ≡ prefix_len is_inside text → line ≡ take n text → rest ≡ drop n text → 0 < length rest → IsLineIn line text
+pub line_in : (text line rest : List ℕ) (n : ℕ) → n ≡ prefix_len is_in_line text → line ≡ take n text → rest ≡ drop n text → 0 < length rest → IsLineIn line text
 line_in text line rest n count front back some =
     let less : n < length text = omega (arith, length-drop n text, ap length back) in
     let len : length line ≡ n = ap length front ∙ length-take-le n text (omega arith) in
-    let feed : get_or text n 0 ≡ 10 = eqb-true (get_or text n 0) 10 (not-false (get_or text n 0 == 10) (ap (λ (k : ℕ). is_inside (get_or text k 0)) count ∙ prefix_len_stops is_inside text 0 (omega arith))) in
-    let ahead : AllPass is_inside (take n text) = λ k d lower. ap is_inside (get_or-take n text k d (omega (arith, length-take-le n text (omega arith)))) ∙ prefix_len_passes is_inside text k d (omega (arith, length-take-le n text (omega arith))) in
+    let feed : get_or text n 0 ≡ 10 = eqb-true (get_or text n 0) 10 (not-false (get_or text n 0 == 10) (ap (λ (k : ℕ). is_in_line (get_or text k 0)) count ∙ prefix_len_stops is_in_line text 0 (omega arith))) in
+    let ahead : AllPass is_in_line (take n text) = λ k d lower. ap is_in_line (get_or-take n text k d (omega (arith, length-take-le n text (omega arith)))) ∙ prefix_len_passes is_in_line text k d (omega (arith, length-take-le n text (omega arith))) in
     record {
-      inside = ap (list_all is_inside) front ∙ list_all-from_AllPass is_inside (take n text) ahead;
+      inside = ap (list_all is_in_line) front ∙ list_all-from_AllPass is_in_line (take n text) ahead;
       parts = sym (take-append-drop n text) ∙ ap (λ (x : List ℕ). take n text ++ x) (drop_more text n 0 less ∙ ap (λ (x : ℕ). x ∷ drop (n + 1) text) feed) ∙ ap (λ (x : List ℕ). x ++ 10 ∷ drop (n + 1) text) (sym front) ∙ ap (λ (k : ℕ). line ++ 10 ∷ drop (k + 1) text) (sym len);
       within = omega arith;
     }

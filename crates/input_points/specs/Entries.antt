@@ -5,7 +5,7 @@ use Rattle.input_points.specs.declared.entry.Entry.{Entry}
 use Rattle.input_points.specs.declared.entry.LineKind.{LineKind}
 use Rattle.input_points.specs.declared.entry.LineKind.TheVariants.{Blank, Point, Bad, TooMany}
 use Rattle.input_points.specs.Lines.{ended_lines}
-use Rattle.input_points.specs.Points.{kind_of}
+use Rattle.input_points.specs.Points.{line_kind_of}
 
 -- The most lines of an input.
 abbrev pub most_lines : ℕ
@@ -20,7 +20,7 @@ ends TooMany = true
 
 -- the line with this number; past 16,777,216 there is one too many, whatever it holds
 abbrev pub entry_of : ℕ → List ℕ → Entry
-entry_of number line = record { line = number; kind = if nat_lt most_lines number then TooMany else kind_of line }
+entry_of number line = record { line = number; kind = if nat_lt most_lines number then TooMany else line_kind_of line }
 
 -- these lines, numbered from here on, up to the first that ends the reading
 abbrev pub entries_from : ℕ → List (List ℕ) → List Entry

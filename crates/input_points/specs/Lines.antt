@@ -6,8 +6,8 @@ use Rattle.std.specs.Str.Lines.{strip_carriage_return}
 use Rattle.lists_and_answers.specs.Bytes.{line_feed}
 
 -- a byte inside a line
-abbrev pub is_inside : ℕ → Bool
-is_inside c = not (c == line_feed)
+abbrev pub is_in_line : ℕ → Bool
+is_in_line c = not (c == line_feed)
 
 -- of the parts between line feeds, all but the last one
 abbrev pub lines_but_last : List (List ℕ) → List (List ℕ)
@@ -21,6 +21,6 @@ ended_lines text = lines_but_last (slice_split (λ c. c == line_feed) text)
 
 -- the bytes before the first line feed of a text
 pub record IsLineIn (line text : List ℕ) : Type 0 where
-  pub inside : list_all is_inside line ≡ true
+  pub inside : list_all is_in_line line ≡ true
   pub parts : text ≡ line ++ line_feed ∷ drop (length line + 1) text
   pub within : length line < length text

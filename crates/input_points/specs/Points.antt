@@ -17,8 +17,8 @@ point_of (Some x) (Some y) = Point x y
 
 -- what a line of at most 4,096 bytes says: nothing where it has no token, and a point where it has two tokens, both of
 -- them decimal texts
-unfoldable pub kind_of : List ℕ → LineKind
-kind_of line =
+unfoldable pub line_kind_of : List ℕ → LineKind
+line_kind_of line =
     let first = token_at line in
     let second = token_at first.1 in
     let third = token_at second.1 in

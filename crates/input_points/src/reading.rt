@@ -4,13 +4,13 @@ ghost use Rattle.std.specs.Prelude.{IfSome, None, if◌then◌else◌};
 ghost use Rattle.std.specs.List.{list_all};
 ghost use Rattle.std.specs.Option.{option_to_list};
 ghost use Rattle.std.specs.Str.Lines.{lines, strip_carriage_return};
-ghost use Rattle.input_points.specs.Lines.{is_inside, ended_lines};
-ghost use Rattle.input_points.specs.Points.{kind_of, longest_line};
+ghost use Rattle.input_points.specs.Lines.{is_in_line, ended_lines};
+ghost use Rattle.input_points.specs.Points.{line_kind_of, longest_line};
 ghost use Rattle.input_points.specs.Entries.{most_lines, ends, entries, ended_entries};
 ghost use Rattle.input_points.specs.Reading.{start, kept, behind, coming};
 
 use crate::entry::{Entry, LineKind};
-use crate::words::{LONGEST, kind_of, line_in, without_return};
+use crate::words::{LONGEST, line_in, line_kind_of, without_return};
 use std::alloc::{AllocError, Global};
 use std::marker::Model;
 
@@ -34,7 +34,7 @@ impl Model for PointLines {
     ghost use Rattle.std.specs.Prelude.{◌≡◌, ◌≤◌, ◌<◌, ◌+◌, length, true};
     ghost use Rattle.std.specs.List.{list_all};
     ghost use Rattle.std.specs.Vec.{vec_capacity};
-    ghost use Rattle.input_points.specs.Lines.{is_inside};
+    ghost use Rattle.input_points.specs.Lines.{is_in_line};
     ghost use Rattle.input_points.specs.Points.{longest_line};
     ghost use Rattle.input_points.specs.Entries.{most_lines};
     ghost use Rattle.input_points.specs.Reading.{Reading};
@@ -45,7 +45,7 @@ impl Model for PointLines {
 
     ghost invariant = { λ p. (p.line ≤ most_lines + 1) × (most_lines < p.line → length p.bytes.items ≡ 0) ×
         (length p.bytes.items ≤ longest_line + 1) × (longest_line + 1 ≤ vec_capacity p.bytes) ×
-        (list_all is_inside p.bytes.items ≡ true) };
+        (list_all is_in_line p.bytes.items ≡ true) };
 }
 
 impl PointLines {
@@ -65,9 +65,9 @@ impl PointLines {
 
     // Keeps the bytes behind those that are kept, where they aren't too many.
     fn keep(&mut self, bytes: &[u8]) -> bool
-        requires inside { list_all is_inside bytes.now ≡ true }
+        requires inside { list_all is_in_line bytes.now ≡ true }
         requires few { self.old.line ≤ most_lines }
-        ensures inside { list_all is_inside self.old.held ≡ true }
+        ensures inside { list_all is_in_line self.old.held ≡ true }
         ensures fits { result ≡ nat_le (length self.old.held + length bytes.now) (longest_line + 1) }
         ensures state { self.new ≡ (if result then kept self.old bytes.now else self.old) }
     {
@@ -77,17 +77,17 @@ impl PointLines {
     #[tactic(auto, using(crate::proofs::PieceCalls::longer_is_bad))]
     // What the line says that ends behind these bytes.
     fn kind_behind(&mut self, bytes: &[u8]) -> LineKind
-        requires inside { list_all is_inside bytes.now ≡ true }
+        requires inside { list_all is_in_line bytes.now ≡ true }
         requires few { self.old.line ≤ most_lines }
-        ensures inside { list_all is_inside self.old.held ≡ true }
-        ensures kind { result ≡ kind_of (strip_carriage_return (self.old.held ++ bytes.now)) }
+        ensures inside { list_all is_in_line self.old.held ≡ true }
+        ensures kind { result ≡ line_kind_of (strip_carriage_return (self.old.held ++ bytes.now)) }
         ensures line { self.new.line ≡ self.old.line }
     {
         if self.bytes.is_empty() {
-            return kind_of(without_return(bytes));
+            return line_kind_of(without_return(bytes));
         }
         if self.keep(bytes) {
-            return kind_of(without_return(&self.bytes));
+            return line_kind_of(without_return(&self.bytes));
         }
         LineKind::Bad
     }
@@ -121,7 +121,7 @@ impl PointLines {
             (drop result.1 piece.now ++ more) }
         ensures last { IfSome result.0 (λ e. self.new.over ≡ ends e.kind) }
         ensures behind { IfSome result.0 (λ e. self.new ≡ behind self.old.line e.kind) }
-        ensures inside { list_all is_inside self.new.held ≡ true }
+        ensures inside { list_all is_in_line self.new.held ≡ true }
         ensures used { result.1 ≤ length piece.now }
         ensures more { 0 < result.1 }
         ensures rest { result.0 ≡ None → result.1 ≡ length piece.now }
@@ -186,7 +186,7 @@ impl PointLines {
         if last.is_empty() {
             return None;
         }
-        let kind = kind_of(last);
+        let kind = line_kind_of(last);
         Some(self.answer(kind))
     }
 }

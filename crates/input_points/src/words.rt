@@ -3,8 +3,8 @@ ghost use Rattle.std.specs.Prelude.{◌≡◌, ◌≤◌, length, true, MatchOpt
 ghost use Rattle.std.specs.List.{prefix_len, list_all};
 ghost use Rattle.std.specs.Str.Lines.{strip_carriage_return};
 ghost use Rattle.geotransform.specs.Decimal.{ticks_of};
-ghost use Rattle.input_points.specs.Lines.{is_inside, IsLineIn};
-ghost use Rattle.input_points.specs.Points.{point_of, kind_of};
+ghost use Rattle.input_points.specs.Lines.{is_in_line, IsLineIn};
+ghost use Rattle.input_points.specs.Points.{point_of, line_kind_of};
 
 use crate::entry::LineKind;
 use crate::position::Position;
@@ -26,9 +26,9 @@ fn point_of(first: &[u8], second: &[u8]) -> LineKind
 }
 
 /// What a line says, of which its end is no part.
-#[tactic(auto, unfolding(crate::specs::Points::kind_of))]
-pub fn kind_of(line: &[u8]) -> LineKind
-    ensures { result ≡ kind_of line.now }
+#[tactic(auto, unfolding(crate::specs::Points::line_kind_of))]
+pub fn line_kind_of(line: &[u8]) -> LineKind
+    ensures { result ≡ line_kind_of line.now }
 {
     if line.len() > LONGEST {
         return LineKind::Bad;
@@ -57,7 +57,7 @@ pub fn without_return(line: &[u8]) -> &[u8]
 }
 
 fn line_len(text: &[u8]) -> usize
-    ensures count { result ≡ prefix_len is_inside text.now }
+    ensures count { result ≡ prefix_len is_in_line text.now }
     ensures bound { result ≤ length text.now }
 {
     text.iter().take_while(|c| **c != b'\n').count()
@@ -66,7 +66,7 @@ fn line_len(text: &[u8]) -> usize
 /// The bytes before the first line feed, and none where there is no line feed.
 #[tactic(auto, using(crate::proofs::Lines::all_inside, crate::proofs::Lines::line_in))]
 pub fn line_in(text: &[u8]) -> Option<&[u8]>
-    ensures { MatchOption result (list_all is_inside text.now ≡ true) (λ line. IsLineIn line.now text.now) }
+    ensures { MatchOption result (list_all is_in_line text.now ≡ true) (λ line. IsLineIn line.now text.now) }
 {
     let (line, rest) = text.split_at(line_len(text));
     if rest.is_empty() { None } else { Some(line) }

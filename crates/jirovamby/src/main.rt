@@ -7,9 +7,9 @@ use std::alloc::{AllocError, Global};
 use std::io::ErrorKind;
 use std::process::{self, ExitCode};
 
-/// How much room is taken and given back at the start, in bytes: less than the 32 MiB past which nothing is learnt of
-/// it.
-const LARGE: usize = 25_165_824;
+/// How much room is taken and given back at the start, in bytes: as much as blocks, squares and strips take that are
+/// made again and again. A list that grows past it is moved once, and grows in place from then on.
+const LARGE: usize = 8_388_608;
 
 // Takes room and gives it back, untouched. The C library's allocator then keeps what blocks of up to this size give
 // back, in place of returning their pages to the system and asking for them again. Where it is refused, nothing is

@@ -7,7 +7,7 @@ use Rattle.catalog.specs.Drivers.{Dataset}
 use Rattle.catalog.specs.Walk.{IsWalked}
 use Rattle.nearest_window.specs.Lanes.{LaneView}
 use Rattle.lane_teams.specs.Ready.{AreLanesFresh, AreLanesReady}
-use Rattle.lane_teams.proofs.Halving.{all_kept}
+use Rattle.lane_teams.proofs.Groups.{all_kept}
 
 module _ {F File Draft : Type 0} (calls : Ghosts F File Draft) (told : Option Files) (scene cat : List Dataset) (lanes : List (LaneView File)) where
   -- fresh lanes are ready for a catalog that was walked over a folder

@@ -1,7 +1,7 @@
 mod Answered
 mod Examples
 mod FirstRefusals
-mod Halving
+mod Groups
 pub mod Lanes
 mod Refusals
 mod Windows

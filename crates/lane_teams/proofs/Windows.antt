@@ -1,4 +1,4 @@
--- Windows that are cut among lanes: the lines of two halves make up the whole.
+-- Windows that are cut among lanes: the lines of two parts make up the whole.
 use Rattle.std.proofs.Common.{◌≡◌, ◌∙◌, ap, refl, ◌+◌, ◌-◌, ◌*◌, ◌/◌, ◌<◌, ◌≤◌, ℕ, ℤ, List, ◌++◌, Option, Some, Ok, Err, arith}
 use Rattle.std.specs.Prelude.{slice_get, Result, OnOk}
 use Rattle.std.specs.List.{All}
@@ -33,7 +33,7 @@ before_end lines n some = let e : n * lines ≡ lines * n + 0 = grind arith in a
 pub before_below : (lines n k : ℕ) → 0 < n → k ≤ n → lines_before lines n k ≤ lines
 before_below lines n k some order = let e = before_end lines n some in let r = before_rises lines n k n some order in omega arith
 
--- the lines of two halves
+-- the lines of two parts
 lines_joined : (f : ℕ → ℕ → ℤ) (rect : Rect) (n a m b : ℕ) → 0 < n → a ≤ m → m ≤ b → row_by_row f (lines_of rect n a m) ++ row_by_row f (lines_of rect n m b) ≡ row_by_row f (lines_of rect n a b)
 lines_joined f rect n a m b some up on =
     let p = before_rises rect.h n a m some up in
@@ -91,7 +91,7 @@ window_low cat window valid w =
     let down = w.down in
     omega (arith, lines, down)
 
--- the samples of two halves
+-- the samples of two parts
 pub sizes : (rect : Rect) (n a m b : ℕ) → 0 < n → a ≤ m → m ≤ b → rect.w * (lines_of rect n a b).h ≡ rect.w * (lines_of rect n a m).h + rect.w * (lines_of rect n m b).h
 sizes rect n a m b some up on =
     let p = before_rises rect.h n a m some up in

@@ -1,4 +1,5 @@
-// Lanes that read their parts of a window beside each other, by halves of halves.
+// Lanes that read their parts of a window beside each other: the first of them in a new thread, and the others, whose
+// threads are begun by the one that calls.
 ghost use Rattle.std.specs.Prelude.{◌≡◌, ◌≤◌, ◌*◌, ◌<◌, length, map, OnOk, IfErr};
 ghost use Rattle.std.specs.List.{All};
 ghost use Rattle.std.specs.Thread.{IsSend, IsSync};
@@ -25,88 +26,88 @@ use std::thread::Threads;
 
 // Lanes with their views and the lines that they read.
 #[derive(Drop)]
-struct Half<'a, F: Folder> {
+struct Group<'a, F: Folder> {
     lanes: &'a mut [Lane<F>],
     turns: &'a mut [Turn<F>],
     out: &'a mut [Sample],
 }
 
-// The first lane of each of two halves, neither of which has more than `most` lanes.
+// The first lane of each of two groups, neither of which has more than `most` lanes.
 #[derive(Clone, Copy)]
-struct Halves {
+struct Groups {
     first: usize,
     middle: usize,
     most: usize,
 }
 
-// The lanes of a half, from one on, read their parts, beside each other.
+// The lanes of a group, from one on, read their parts, beside each other.
 #[cycle(lanes)]
-fn read_half<R: Threads + Sync, F: Folder, S: Scene>(
+fn read_group<R: Threads + Sync, F: Folder, S: Scene>(
     rt: &R,
     supply: &Supply<S>,
     job: &Job,
     first: usize,
-    half: &mut Half<F>,
+    group: &mut Group<F>,
 )
     requires scene { S.cat ≡ supply.now.cat.now }
-    requires ready { AreReady F.Folder S.told supply.now.cat.now job.now first half.old.lanes.now half.old.turns.now
-        half.old.out.now }
-    ensures lanes { half.new.lanes.ghost_name ≡ half.old.lanes.ghost_name }
-    ensures turns { half.new.turns.ghost_name ≡ half.old.turns.ghost_name }
-    ensures out { half.new.out.ghost_name ≡ half.old.out.ghost_name }
-    ensures read { HaveRead F.Folder S.told supply.now.cat.now job.now first half.old.lanes.now half.new.lanes.now
-        half.new.turns.now half.new.out.now }
+    requires ready { AreReady F.Folder S.told supply.now.cat.now job.now first group.old.lanes.now group.old.turns.now
+        group.old.out.now }
+    ensures lanes { group.new.lanes.ghost_name ≡ group.old.lanes.ghost_name }
+    ensures turns { group.new.turns.ghost_name ≡ group.old.turns.ghost_name }
+    ensures out { group.new.out.ghost_name ≡ group.old.out.ghost_name }
+    ensures read { HaveRead F.Folder S.told supply.now.cat.now job.now first group.old.lanes.now group.new.lanes.now
+        group.new.turns.now group.new.out.now }
 {
-    let lanes = &mut *half.lanes;
-    let turns = &mut *half.turns;
-    let out = &mut *half.out;
+    let lanes = &mut *group.lanes;
+    let turns = &mut *group.turns;
+    let out = &mut *group.out;
     read_all::<R, F, S>(rt, supply, job, first, lanes, turns, out);
 }
 
-// Both halves read, beside each other where a thread can be started.
+// Both groups read, beside each other where a thread can be started.
 #[cycle(lanes)]
 fn read_both<'a, R: Threads + Sync, F: Folder, S: Scene>(
     rt: &R,
     supply: &Supply<S>,
     job: &Job,
-    halves: Halves,
-    front: &mut Half<'a, F>,
-    back: &mut Half<'a, F>,
+    groups: Groups,
+    front: &mut Group<'a, F>,
+    back: &mut Group<'a, F>,
 )
     requires scene { S.cat ≡ supply.now.cat.now }
-    requires front { AreReady F.Folder S.told supply.now.cat.now job.now halves.first front.old.lanes.now
+    requires front { AreReady F.Folder S.told supply.now.cat.now job.now groups.first front.old.lanes.now
         front.old.turns.now front.old.out.now }
-    requires front_few { length front.old.lanes.now ≤ halves.most }
-    requires back { AreReady F.Folder S.told supply.now.cat.now job.now halves.middle back.old.lanes.now
+    requires front_few { length front.old.lanes.now ≤ groups.most }
+    requires back { AreReady F.Folder S.told supply.now.cat.now job.now groups.middle back.old.lanes.now
         back.old.turns.now back.old.out.now }
-    requires back_few { length back.old.lanes.now ≤ halves.most }
+    requires back_few { length back.old.lanes.now ≤ groups.most }
     ensures front_lanes { front.new.lanes.ghost_name ≡ front.old.lanes.ghost_name }
     ensures front_turns { front.new.turns.ghost_name ≡ front.old.turns.ghost_name }
     ensures front_out { front.new.out.ghost_name ≡ front.old.out.ghost_name }
-    ensures front_read { HaveRead F.Folder S.told supply.now.cat.now job.now halves.first front.old.lanes.now
+    ensures front_read { HaveRead F.Folder S.told supply.now.cat.now job.now groups.first front.old.lanes.now
         front.new.lanes.now front.new.turns.now front.new.out.now }
     ensures back_lanes { back.new.lanes.ghost_name ≡ back.old.lanes.ghost_name }
     ensures back_turns { back.new.turns.ghost_name ≡ back.old.turns.ghost_name }
     ensures back_out { back.new.out.ghost_name ≡ back.old.out.ghost_name }
-    ensures back_read { HaveRead F.Folder S.told supply.now.cat.now job.now halves.middle back.old.lanes.now
+    ensures back_read { HaveRead F.Folder S.told supply.now.cat.now job.now groups.middle back.old.lanes.now
         back.new.lanes.now back.new.turns.now back.new.out.now }
 {
-    let most = halves.most;
-    let read = |at: usize, half: &mut Half<F>|
+    let most = groups.most;
+    let read = |at: usize, group: &mut Group<F>|
         requires { IsSync R.row × IsSend S.row × IsSync S.row × (S.cat ≡ supply.now.cat.now) × IsSend F.row ×
-            IsSend F.File.row × IsSend F.Draft.row × (length half.old.lanes.now ≤ most) ×
-            AreReady F.Folder S.told supply.now.cat.now job.now at half.old.lanes.now half.old.turns.now
-            half.old.out.now }
-        ensures { (half.new.lanes.ghost_name ≡ half.old.lanes.ghost_name) ×
-            (half.new.turns.ghost_name ≡ half.old.turns.ghost_name) ×
-            (half.new.out.ghost_name ≡ half.old.out.ghost_name) × HaveRead F.Folder S.told supply.entry.now.cat.now
-            job.entry.now at half.old.lanes.now half.new.lanes.now half.new.turns.now half.new.out.now }
+            IsSend F.File.row × IsSend F.Draft.row × (length group.old.lanes.now ≤ most) ×
+            AreReady F.Folder S.told supply.now.cat.now job.now at group.old.lanes.now group.old.turns.now
+            group.old.out.now }
+        ensures { (group.new.lanes.ghost_name ≡ group.old.lanes.ghost_name) ×
+            (group.new.turns.ghost_name ≡ group.old.turns.ghost_name) ×
+            (group.new.out.ghost_name ≡ group.old.out.ghost_name) × HaveRead F.Folder S.told supply.entry.now.cat.now
+            job.entry.now at group.old.lanes.now group.new.lanes.now group.new.turns.now group.new.out.now }
     {
         // The clauses name it.
         let _most = most;
-        read_half::<R, F, S>(rt, supply, job, at, half);
+        read_group::<R, F, S>(rt, supply, job, at, group);
     };
-    both(rt, &read, halves.first, front, halves.middle, back);
+    both(rt, &read, groups.first, front, groups.middle, back);
 }
 
 // Both parts read, beside each other where a thread can be started.
@@ -115,37 +116,37 @@ fn read_pair<'x, R: Threads + Sync, F: Folder, S: Scene>(
     rt: &R,
     supply: &Supply<S>,
     job: &Job,
-    halves: Halves,
+    groups: Groups,
     lanes: (&'x mut [Lane<F>], &'x mut [Lane<F>]),
     turns: (&'x mut [Turn<F>], &'x mut [Turn<F>]),
     out: (&'x mut [Sample], &'x mut [Sample]),
 )
     requires scene { S.cat ≡ supply.now.cat.now }
-    requires front { AreReady F.Folder S.told supply.now.cat.now job.now halves.first lanes.0.now turns.0.now
+    requires front { AreReady F.Folder S.told supply.now.cat.now job.now groups.first lanes.0.now turns.0.now
         out.0.now }
-    requires front_few { length lanes.0.now ≤ halves.most }
-    requires back { AreReady F.Folder S.told supply.now.cat.now job.now halves.middle lanes.1.now turns.1.now
+    requires front_few { length lanes.0.now ≤ groups.most }
+    requires back { AreReady F.Folder S.told supply.now.cat.now job.now groups.middle lanes.1.now turns.1.now
         out.1.now }
-    requires back_few { length lanes.1.now ≤ halves.most }
-    ensures front { HaveRead F.Folder S.told supply.now.cat.now job.now halves.first lanes.entry.0.now lanes.exit.0.now
+    requires back_few { length lanes.1.now ≤ groups.most }
+    ensures front { HaveRead F.Folder S.told supply.now.cat.now job.now groups.first lanes.entry.0.now lanes.exit.0.now
         turns.exit.0.now out.exit.0.now }
-    ensures back { HaveRead F.Folder S.told supply.now.cat.now job.now halves.middle lanes.entry.1.now
+    ensures back { HaveRead F.Folder S.told supply.now.cat.now job.now groups.middle lanes.entry.1.now
         lanes.exit.1.0.now turns.exit.1.0.now out.exit.1.0.now }
 {
     let (first_lanes, other_lanes) = lanes;
     let (first_turns, other_turns) = turns;
     let (first_out, other_out) = out;
-    let mut front = Half {
+    let mut front = Group {
         lanes: first_lanes,
         turns: first_turns,
         out: first_out,
     };
-    let mut back = Half {
+    let mut back = Group {
         lanes: other_lanes,
         turns: other_turns,
         out: other_out,
     };
-    read_both::<R, F, S>(rt, supply, job, halves, &mut front, &mut back);
+    read_both::<R, F, S>(rt, supply, job, groups, &mut front, &mut back);
 }
 
 // The lanes from one on read their parts, beside each other.
@@ -170,18 +171,20 @@ fn read_all<'x, R: Threads + Sync, F: Folder, S: Scene>(
     }
     // This call is made for the proof: it says what holds of every catalog.
     let _count = supply.cat.count();
-    let low = count / 2;
-    let halves = Halves {
+    // One lane gets a new thread, and the thread that calls begins those of the others. A thread that has only just
+    // begun would begin the next one late: by up to a tick of the system's clock.
+    let low = 1;
+    let groups = Groups {
         first,
         middle: first + low,
         most: count - low,
     };
-    let rect = part_of(job, first, halves.middle).rect;
+    let rect = part_of(job, first, groups.middle).rect;
     let size = rect.w as usize * rect.h as usize;
     let lanes = lanes.split_at_mut(low);
     let turns = turns.split_at_mut(low);
     let out = out.split_at_mut(size);
-    read_pair::<R, F, S>(rt, supply, job, halves, lanes, turns, out);
+    read_pair::<R, F, S>(rt, supply, job, groups, lanes, turns, out);
 }
 
 // The same, for lanes of a folder.

@@ -18,18 +18,21 @@ use std::thread::{Threads, join};
 // A dataset, a band and a line of pixels, which is a block.
 type Place = (u32, u32, u32);
 
-// What is done to shared lines: a block whose first sample is this one is offered, or a block is looked for, and the
-// first sample is shown, or nothing.
+// The two samples of a block.
+type Pair = (Sample, Sample);
+
+// What is done to shared lines: a block of these samples is offered, or a block is looked for, and its samples are
+// shown, or nothing.
 #[derive(Clone, Copy)]
-enum Step {
-    Offer(Place, Sample),
-    Look(Place, Option<Sample>),
+enum LineCall {
+    Offer(Place, Pair),
+    Look(Place, Option<Pair>),
 }
 
-use Step::{Look, Offer};
+use LineCall::{Look, Offer};
 
 // How many lines there are, and what is done to them.
-type Row<'a> = (u32, &'a [Step]);
+type Row<'a> = (u32, &'a [LineCall]);
 
 // The first dataset has one band of six lines, the second two of three.
 const ROWS: [Row<'static>; 7] = [
@@ -39,17 +42,17 @@ const ROWS: [Row<'static>; 7] = [
     (
         4,
         &[
-            Offer((0, 0, 1), 1),
-            Look((0, 0, 1), Some(1)),
+            Offer((0, 0, 1), (1, 2)),
+            Look((0, 0, 1), Some((1, 2))),
             Look((0, 0, 5), None),
-            Look((0, 0, 1), Some(1)),
+            Look((0, 0, 1), Some((1, 2))),
         ],
     ),
     // nor under a key of another line
     (
         4,
         &[
-            Offer((0, 0, 1), 1),
+            Offer((0, 0, 1), (1, 2)),
             Look((0, 0, 0), None),
             Look((0, 0, 2), None),
             Look((1, 0, 1), None),
@@ -59,32 +62,32 @@ const ROWS: [Row<'static>; 7] = [
     (
         4,
         &[
-            Offer((0, 0, 1), 1),
-            Offer((0, 0, 5), 5),
+            Offer((0, 0, 1), (1, 2)),
+            Offer((0, 0, 5), (5, 6)),
             Look((0, 0, 1), None),
-            Look((0, 0, 5), Some(5)),
-            Offer((0, 0, 1), 2),
-            Look((0, 0, 1), Some(2)),
+            Look((0, 0, 5), Some((5, 6))),
+            Offer((0, 0, 1), (2, 1)),
+            Look((0, 0, 1), Some((2, 1))),
         ],
     ),
     // bands of one dataset, and datasets, in lines of 7 and of 31
     (
         7,
         &[
-            Offer((1, 0, 2), 3),
+            Offer((1, 0, 2), (3, 4)),
             Look((1, 1, 2), None),
-            Offer((1, 1, 2), 4),
-            Look((1, 1, 2), Some(4)),
+            Offer((1, 1, 2), (4, 3)),
+            Look((1, 1, 2), Some((4, 3))),
             Look((1, 0, 2), None),
         ],
     ),
     (
         31,
         &[
-            Offer((0, 0, 2), 6),
+            Offer((0, 0, 2), (6, 7)),
             Look((1, 0, 2), None),
-            Offer((1, 0, 2), 7),
-            Look((1, 0, 2), Some(7)),
+            Offer((1, 0, 2), (7, 6)),
+            Look((1, 0, 2), Some((7, 6))),
             Look((0, 0, 2), None),
         ],
     ),
@@ -93,12 +96,12 @@ const ROWS: [Row<'static>; 7] = [
         1,
         &[
             Look((0, 0, 0), None),
-            Offer((0, 0, 0), 8),
-            Look((0, 0, 0), Some(8)),
+            Offer((0, 0, 0), (8, 9)),
+            Look((0, 0, 0), Some((8, 9))),
             Look((0, 0, 1), None),
-            Offer((1, 1, 0), 9),
+            Offer((1, 1, 0), (9, 8)),
             Look((0, 0, 0), None),
-            Look((1, 1, 0), Some(9)),
+            Look((1, 1, 0), Some((9, 8))),
         ],
     ),
 ];
@@ -123,26 +126,37 @@ fn key_of(cat: &Catalog, place: Place) -> Option<BlockKey>
     })
 }
 
-// Puts the first sample, where the block has one and its type has the number.
-fn put_first(block: &mut Block, sample: Sample)
+// Puts a sample into its place, where the block has that and its type the number.
+fn put_at(block: &mut Block, at: u32, sample: Sample)
     ensures kind { block.new.kind ≡ block.old.kind }
     ensures count { length block.new.samples ≡ length block.old.samples }
     ensures valid { IsPacked block.new }
 {
-    if block.len() > 0 && holds(block.kind(), sample) {
-        block.set(0, sample);
+    if at < block.len() && holds(block.kind(), sample) {
+        block.set(at, sample);
     }
     // A block is packed: that is known of what is read.
     let _len = block.len();
 }
 
-// A block of a key, over a folder that tells nothing, with this sample first.
+// Puts both samples.
+fn put_both(block: &mut Block, pair: Pair)
+    ensures kind { block.new.kind ≡ block.old.kind }
+    ensures count { length block.new.samples ≡ length block.old.samples }
+    ensures valid { IsPacked block.new }
+{
+    let (first, second) = pair;
+    put_at(block, 0, first);
+    put_at(block, 1, second);
+}
+
+// A block of a key, over a folder that tells nothing, with these samples.
 #[tactic(auto, using(crate::proofs::Untold::is_block))]
 fn block_of<S: Scene>(
     alloc: Global,
     cat: &Catalog,
     key: BlockKey,
-    sample: Sample,
+    pair: Pair,
 ) -> Result<Block, AllocError>
     requires told { S.told ≡ None }
     requires cat { S.cat ≡ cat.now }
@@ -150,41 +164,41 @@ fn block_of<S: Scene>(
     ensures block { IfOk result (IsBlock S.told S.cat key) }
 {
     let mut block = zeros_for(alloc, cat, key)?;
-    put_first(&mut block, sample);
+    put_both(&mut block, pair);
     Ok(block)
 }
 
-// Whether a block with this sample first was put into its line.
+// Whether a block of these samples was put into its line.
 fn is_put<S: Scene>(
     alloc: Global,
     cat: &Catalog,
     lines: &Lines<S>,
     key: BlockKey,
-    sample: Sample,
+    pair: Pair,
 ) -> Result<bool, AllocError>
     requires told { S.told ≡ None }
     requires cat { S.cat ≡ cat.now }
     requires key { IsKey cat.now key }
 {
-    let block = block_of::<S>(alloc, cat, key, sample)?;
+    let block = block_of::<S>(alloc, cat, key, pair)?;
     lines.offer(key, &block)
 }
 
-// The first sample of the block that is shown under a key.
-fn first_shown<S: Scene>(
+// The samples of the block that is shown under a key, where it has two.
+fn both_shown<S: Scene>(
     alloc: Global,
     cat: &Catalog,
     lines: &Lines<S>,
     key: BlockKey,
-) -> Result<Option<Sample>, AllocError>
+) -> Result<Option<Pair>, AllocError>
     requires cat { S.cat ≡ cat.now }
     requires key { IsKey cat.now key }
 {
     let mut out = zeros_for(alloc, cat, key)?;
-    if !lines.look(&key, &mut out) || out.len() == 0 {
+    if !lines.look(&key, &mut out) || out.len() != 2 {
         return Ok(None);
     }
-    Ok(Some(out.get(0)))
+    Ok(Some((out.get(0), out.get(1))))
 }
 
 // Whether a step goes so.
@@ -192,18 +206,18 @@ fn goes<S: Scene>(
     alloc: Global,
     cat: &Catalog,
     lines: &Lines<S>,
-    step: Step,
+    step: LineCall,
 ) -> Result<bool, AllocError>
     requires told { S.told ≡ None }
     requires cat { S.cat ≡ cat.now }
 {
     match step {
-        Offer(place, sample) => match key_of(cat, place) {
-            Some(key) => is_put(alloc, cat, lines, key, sample),
+        Offer(place, pair) => match key_of(cat, place) {
+            Some(key) => is_put(alloc, cat, lines, key, pair),
             None => Ok(false),
         },
-        Look(place, sample) => match key_of(cat, place) {
-            Some(key) => Ok(first_shown(alloc, cat, lines, key)? == sample),
+        Look(place, pair) => match key_of(cat, place) {
+            Some(key) => Ok(both_shown(alloc, cat, lines, key)? == pair),
             None => Ok(false),
         },
     }
@@ -215,7 +229,7 @@ fn all_go<F: Folder, S: Scene>(
     cat: &Catalog,
     folder: &F,
     count: u32,
-    steps: &[Step],
+    steps: &[LineCall],
 ) -> Result<bool, AllocError>
     requires none { F.names folder.now ≡ None }
     requires told { S.told ≡ F.names folder.now }
@@ -283,8 +297,8 @@ fn offered_blocks_are_shown_under_their_keys(rt: HostRuntime) -> Result<(), Fail
     Ok(())
 }
 
-// Two blocks of one line of four, by their first samples.
-const BESIDE: [(Place, Sample); 2] = [((0, 0, 1), 1), ((0, 0, 5), 5)];
+// Two blocks of one line of four, by their samples.
+const BESIDE: [(Place, Pair); 2] = [((0, 0, 1), (1, 2)), ((0, 0, 5), (5, 6))];
 
 // Whether a block is shown as it was offered, or not at all, once it was offered here.
 fn is_own<S: Scene>(
@@ -292,7 +306,7 @@ fn is_own<S: Scene>(
     cat: &Catalog,
     lines: &Lines<S>,
     place: Place,
-    sample: Sample,
+    pair: Pair,
 ) -> Result<bool, AllocError>
     requires told { S.told ≡ None }
     requires cat { S.cat ≡ cat.now }
@@ -300,9 +314,9 @@ fn is_own<S: Scene>(
     let Some(key) = key_of(cat, place) else {
         return Ok(false);
     };
-    let _put = is_put(alloc, cat, lines, key, sample)?;
-    let shown = first_shown(alloc, cat, lines, key)?;
-    Ok(shown.is_none() || shown == Some(sample))
+    let _put = is_put(alloc, cat, lines, key, pair)?;
+    let shown = both_shown(alloc, cat, lines, key)?;
+    Ok(shown.is_none() || shown == Some(pair))
 }
 
 // Whether each block that is shown is its key's, while both are offered in turn.
@@ -311,8 +325,8 @@ fn are_own<S: Scene>(alloc: Global, cat: &Catalog, lines: &Lines<S>) -> Result<b
     requires cat { S.cat ≡ cat.now }
 {
     for turn in 0..2000 {
-        let (place, sample) = BESIDE[turn % 2];
-        if !is_own(alloc, cat, lines, place, sample)? {
+        let (place, pair) = BESIDE[turn % 2];
+        if !is_own(alloc, cat, lines, place, pair)? {
             return Ok(false);
         }
     }

@@ -7,7 +7,7 @@ use Rattle.outside.specs.Streams.{Gets, GetsPart}
 use Rattle.outside.proofs.Sinks.{gets-none}
 use Rattle.error_lines.specs.declared.faults.Fault.{Fault}
 use Rattle.error_lines.specs.Faults.{IsOutside}
-use Rattle.error_lines.specs.Steps.{Step, Prints, Warns, Publishes, printed, published, warned, cut, applied, all_done, refused, IsFirstPart, AreDone, AreWarned, Goes, GoesWarning}
+use Rattle.error_lines.specs.Steps.{Step, Prints, Warns, Publishes, printed, published, warned, cut_short, applied, all_done, refused, IsFirstPart, AreDone, AreWarned, Goes, GoesWarning}
 use Rattle.error_lines.proofs.Warned.{warned_both, none_warned}
 use Rattle.error_lines.proofs.Silent.{part_silent}
 use Rattle.mosaic_builds.specs.Steps.{progress_line, progress_steps, publishing_steps, mosaic_done, warns}
@@ -35,7 +35,7 @@ count_behind : List (List ℕ) → ℕ → ℕ
 count_behind [] n = n
 count_behind (line ∷ lines) n = suc (count_behind lines n)
 
-cut_behind : (lines : List (List ℕ)) (steps : List Step) (n k : ℕ) → cut (count_behind lines n) k (warns lines ++ steps) ≡ warns lines ++ cut n k steps
+cut_behind : (lines : List (List ℕ)) (steps : List Step) (n k : ℕ) → cut_short (count_behind lines n) k (warns lines ++ steps) ≡ warns lines ++ cut_short n k steps
 unfolding count_behind
 cut_behind [] steps n k = refl
 cut_behind (line ∷ lines) steps n k = ap (λ (s : List Step). Warns line ∷ s) (cut_behind lines steps n k)
@@ -121,7 +121,7 @@ pub document_stops : (quiet : Bool) (name : List ℕ) (document : DocumentValue)
 document_stops quiet name document m fault names got is out = inr (out, ([], (0, 0, refl), record { printed = gets-none got; published = is }))
 
 -- a mosaic that was refused, or that the outside ended so before its first step
-none_begun : (quiet : Bool) (name : List ℕ) (document : DocumentValue) (lines : List (List ℕ)) → [] ≡ cut 0 0 (warns lines ++ publishing_steps quiet name document)
+none_begun : (quiet : Bool) (name : List ℕ) (document : DocumentValue) (lines : List (List ℕ)) → [] ≡ cut_short 0 0 (warns lines ++ publishing_steps quiet name document)
 none_begun quiet name document [] = refl
 none_begun quiet name document (line ∷ lines) = refl
 

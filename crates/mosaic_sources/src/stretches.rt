@@ -55,7 +55,7 @@ fn end_of(cuts: &[u32], span: Span, height: u32) -> usize
 
 // The stretches of a span.
 fn stretches_of(cuts: &[u32], span: Span, height: u32) -> Span
-    requires few { length cuts.now ≤ 524288 }
+    requires few { length cuts.now ≤ 2 * most_sources }
     requires rising { IsStrictlyIncreasing cuts.now }
     requires edges { HasEdges cuts.now height span }
     ensures within { IsWithinCount (length cuts.now + 1) result }
@@ -80,7 +80,7 @@ pub fn all_stretches(
     cuts: &[u32],
     height: u32,
 ) -> Result<Vec<Span>, AllocError>
-    requires few { length cuts.now ≤ 524288 }
+    requires few { length cuts.now ≤ 2 * most_sources }
     requires rising { IsStrictlyIncreasing cuts.now }
     requires edges { All (HasEdges cuts.now height) spans.now }
     requires ends { All (λ s. s.end ≤ height) spans.now }
@@ -100,7 +100,7 @@ pub fn all_stretches(
 /// How many numbers the lists of `count` stretches have together.
 pub fn total_of(stretches: &[Span], count: usize) -> u64
     requires few { length stretches.now ≤ most_sources }
-    requires short { count ≤ 524289 }
+    requires short { count ≤ 2 * most_sources + 1 }
     requires within { All (IsWithinCount count) stretches.now }
     ensures total { result ≡ held_by stretches.now }
 {

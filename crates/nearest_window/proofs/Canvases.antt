@@ -17,7 +17,7 @@ use Rattle.mosaic_sources.proofs.Following.{is_pixel}
 use Rattle.nearest_window.specs.declared.merging.Place.{Place}
 use Rattle.nearest_window.specs.declared.taking.Taking.{Taking}
 use Rattle.nearest_window.specs.declared.taking.Taking.TheVariants.{All, Except, By}
-use Rattle.nearest_window.specs.Canvases.{blank, filled_with, stands, IsSame, IsUnder, IsMerged}
+use Rattle.nearest_window.specs.Canvases.{blank, filled_with, stands, IsSame, IsMergedFrom, IsMerged}
 use Rattle.nearest_window.specs.Painted.{IsPainted, given_between}
 use Rattle.nearest_window.specs.Taken.{TakesPixel, taken_by}
 use Rattle.nearest_window.proofs.Painted.{painted_part, placed_in, placed_before, placed_after}
@@ -117,7 +117,7 @@ under_more taking kind pixels base i v old mid there before here = record {
   above = λ k p. get_or-set_other mid i k v (pos 0) (λ z. absurd (omega arith)) ∙ before.above k (omega arith);
 }
 
-pub under_whole : (taking : Taking) (kind : PixelType) (pixels : List ℤ) (base n : ℕ) (old new : List ℤ) → length old ≤ n → IsUnderSoFar taking kind pixels base n old new → IsUnder taking kind pixels base old new
+pub under_whole : (taking : Taking) (kind : PixelType) (pixels : List ℤ) (base n : ℕ) (old new : List ℤ) → length old ≤ n → IsUnderSoFar taking kind pixels base n old new → IsMergedFrom taking kind pixels base old new
 under_whole taking kind pixels base n old new p h = record { size = h.size; each = λ k q. h.below k (omega arith) }
 
 -- the first n open places have a value
@@ -190,7 +190,7 @@ module _ (taking : Taking) (kind : PixelType) (pixels : List ℤ) (place : Place
 
   -- a row more
   row_more : (row : ℕ) (old mid ys : List ℤ) → place.to + place.columns ≤ place.stride → (place.top + row + 1) * place.stride ≤ length mid
-      → IsMerged taking kind pixels place row old mid → IsUnder taking kind pixels (row * place.columns) (mid_of ((place.top + row) * place.stride + place.to) place.columns mid) ys
+      → IsMerged taking kind pixels place row old mid → IsMergedFrom taking kind pixels (row * place.columns) (mid_of ((place.top + row) * place.stride + place.to) place.columns mid) ys
       → IsMerged taking kind pixels place (row + 1) old (put_mid ((place.top + row) * place.stride + place.to) place.columns mid ys)
   row_more row old mid ys wide low before here = record {
     size = put_size ((place.top + row) * place.stride + place.to) place.columns mid ys fits size ∙ before.size;
@@ -245,12 +245,12 @@ module _ (taking : Taking) (kind : PixelType) (pixels : List ℤ) (place : Place
 
   -- the same at the bounds as code has them
   pub merged_more : (row p q : ℕ) (old mid ys : List ℤ) → p ≡ (place.top + row) * place.stride + place.to → q ≡ p + place.columns → place.to + place.columns ≤ place.stride → (place.top + row + 1) * place.stride ≤ length mid
-      → IsMerged taking kind pixels place row old mid → IsUnder taking kind pixels (row * place.columns) (mid_of p (q - p) mid) ys → IsMerged taking kind pixels place (row + 1) old (put_mid p (q - p) mid ys)
+      → IsMerged taking kind pixels place row old mid → IsMergedFrom taking kind pixels (row * place.columns) (mid_of p (q - p) mid) ys → IsMerged taking kind pixels place (row + 1) old (put_mid p (q - p) mid ys)
   merged_more row p q old mid ys e f wide low before here =
       let d : q - p ≡ place.columns = omega arith in
       subst (λ m. IsMerged taking kind pixels place (row + 1) old (put_mid p m mid ys)) (sym d)
       (subst (λ m. IsMerged taking kind pixels place (row + 1) old (put_mid m place.columns mid ys)) (sym e)
-      (row_more row old mid ys wide low before (subst (λ m. IsUnder taking kind pixels (row * place.columns) (mid_of m place.columns mid) ys) e (subst (λ m. IsUnder taking kind pixels (row * place.columns) (mid_of p m mid) ys) d here))))
+      (row_more row old mid ys wide low before (subst (λ m. IsMergedFrom taking kind pixels (row * place.columns) (mid_of m place.columns mid) ys) e (subst (λ m. IsMergedFrom taking kind pixels (row * place.columns) (mid_of p m mid) ys) d here))))
 
 -- the first n places are open where they had a value
 pub record IsOpenedSoFar (value : ℤ) (n : ℕ) (old new : List ℤ) : Type 0 where

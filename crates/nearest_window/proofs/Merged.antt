@@ -12,7 +12,7 @@ use Rattle.band_blocks.specs.Blocks.{BlockView, block_view}
 use Rattle.nearest_window.specs.declared.canvas.Canvas.{Canvas}
 use Rattle.nearest_window.specs.declared.merging.Place.{Place}
 use Rattle.nearest_window.specs.declared.taking.Taking.{Taking}
-use Rattle.nearest_window.specs.Canvases.{filled_with, stands, stands_at, IsSame, IsCanvas, HoldsPart, IsAt, IsMerged, IsTaken, IsPackedOf}
+use Rattle.nearest_window.specs.Canvases.{filled_with, stands, stands_at, IsSame, IsCanvas, HoldsPart, IsInPlace, IsMerged, IsTaken, IsPackedOf}
 use Rattle.nearest_window.specs.Taken.{taken_by}
 use Rattle.nearest_window.proofs.Canvases.{stands_there, open_replicate}
 
@@ -35,7 +35,7 @@ module _ (c c' : Canvas) (taking : Taking) (pixels : List ℤ) (part : Rect) (ca
   new_size : length c'.samples.items ≡ c.rect.w * c.rect.h
   new_size = merged.size ∙ size
 
-  at_or_not : (x y : ℕ) → IsAt (part_place c.rect part) part.h x y ⊎ (IsAt (part_place c.rect part) part.h x y → ⊥)
+  at_or_not : (x y : ℕ) → IsInPlace (part_place c.rect part) part.h x y ⊎ (IsInPlace (part_place c.rect part) part.h x y → ⊥)
   at_or_not x y = elim (cases_lt x (part.x - c.rect.x)) [
     | inl p ↦ inr (λ i. let q = i.left in absurd (omega arith))
     | inr p ↦ elim (cases_lt x (part.x - c.rect.x + part.w)) [

@@ -29,7 +29,7 @@ use Rattle.nearest_window.specs.Right.{AreBlocks}
 use Rattle.vrt_profile.specs.Values.{SourceValue}
 use Rattle.mosaic_sources.specs.Pixels.{IsPixelOf}
 use Rattle.mosaic_sources.proofs.Following.{is_pixel_of}
-use Rattle.nearest_window.specs.Shown.{IsPictureOf, IsInBand, IsPartOf, IsTyped, AreTyped, IsWhole, TakesBand}
+use Rattle.nearest_window.specs.Shown.{IsPictureOf, IsInBand, IsPartOf, IsTyped, AreTyped, ShowsWindow, TakesBand}
 use Rattle.nearest_window.specs.Taken.{place_at, taken_by}
 use Rattle.nearest_window.proofs.Filled.{filled_by, filled_none, filled_columns, filled_rows, all_of}
 use Rattle.nearest_window.proofs.Keys.{is_block_held}
@@ -113,7 +113,7 @@ rows_typed cat p r n a b mid ys ae be some fits size before here all =
     filled_rows (IsInBand cat p.dataset p.band) p.stride (p.to + 0) (p.to + 0 + p.width) r n a b mid ys some ae be fits (f.size ∙ size) (before all) (λ k s. f.inside k (subst (λ m. k < m) (sym size) s))
 
 -- each sample of a whole window
-pub window_typed : (cat : List Dataset) (window : Window) (p : Picture) (xs : List ℤ) (n : ℕ) → IsWhole window p → 0 < window.rect.w → length xs ≡ n → AreTyped cat p n xs → All (IsInBand cat window.dataset window.band) xs
+pub window_typed : (cat : List Dataset) (window : Window) (p : Picture) (xs : List ℤ) (n : ℕ) → ShowsWindow window p → 0 < window.rect.w → length xs ≡ n → AreTyped cat p n xs → All (IsInBand cat window.dataset window.band) xs
 window_typed cat window p xs n whole some size typed =
     let stride = whole.stride in let to = whole.to in let width = whole.width in
     subst (λ id. All (IsInBand cat id window.band) xs) whole.dataset_is

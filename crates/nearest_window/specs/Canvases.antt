@@ -59,14 +59,15 @@ pub record HoldsPart (rect part : Rect) : Type 0 where
   pub some : 0 < part.w
 
 -- what is made of pixels from `base` on stands where the samples were open
-pub record IsUnder (taking : Taking) (kind : PixelType) (pixels : List ℤ) (base : ℕ) (old new : List ℤ) : Type 0 where
+pub record IsMergedFrom (taking : Taking) (kind : PixelType) (pixels : List ℤ) (base : ℕ) (old new : List ℤ)
+    : Type 0 where
   pub size : length new ≡ length old
   pub each : (k : ℕ) → k < length old →
       IsSame kind (filled_with (slice_index_or new k (pos 0))) (option_or (filled_with (slice_index_or old k (pos 0)))
       (taken_by taking (slice_index_or pixels (base + k) (pos 0))))
 
 -- the column and the line lie in the first so many rows of a place
-pub record IsAt (place : Place) (rows x y : ℕ) : Type 0 where
+pub record IsInPlace (place : Place) (rows x y : ℕ) : Type 0 where
   pub left : place.to ≤ x
   pub right : x < place.to + place.columns
   pub top : place.top ≤ y
@@ -76,12 +77,12 @@ pub record IsAt (place : Place) (rows x y : ℕ) : Type 0 where
 pub record IsMerged (taking : Taking) (kind : PixelType) (pixels : List ℤ) (place : Place) (rows : ℕ) (old new : List ℤ)
     : Type 0 where
   pub size : length new ≡ length old
-  pub inside : (x y : ℕ) → IsAt place rows x y
+  pub inside : (x y : ℕ) → IsInPlace place rows x y
       →
       IsSame kind (filled_with (slice_index_or new (y * place.stride + x) (pos 0)))
       (option_or (filled_with (slice_index_or old (y * place.stride + x) (pos 0)))
       (taken_by taking (slice_index_or pixels ((y - place.top) * place.columns + (x - place.to)) (pos 0))))
-  pub outside : (x y : ℕ) → x < place.stride → y * place.stride + x < length old → (IsAt place rows x y → ⊥) →
+  pub outside : (x y : ℕ) → x < place.stride → y * place.stride + x < length old → (IsInPlace place rows x y → ⊥) →
       slice_index_or new (y * place.stride + x) (pos 0) ≡ slice_index_or old (y * place.stride + x) (pos 0)
 
 -- what stands on a canvas at a column and a line of its mosaic

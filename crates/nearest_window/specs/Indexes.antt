@@ -5,6 +5,10 @@ use Rattle.std.specs.Option.{option_map_or}
 use Rattle.mosaic_sources.specs.Rows.{listed, most_listed}
 use Rattle.nearest_window.specs.declared.indexes.Kept.{Kept}
 
+-- The most bands that are indexed.
+abbrev pub most_indexed : ℕ
+most_indexed = 256
+
 -- whether it is this band
 abbrev pub is_of : Kept → ℕ → ℕ → Bool
 is_of kept dataset band = nat_eq kept.dataset dataset && nat_eq kept.band band

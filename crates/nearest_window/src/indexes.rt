@@ -2,14 +2,14 @@
 ghost use Rattle.std.specs.Prelude.{◌≡◌, ◌++◌, ◌≤◌, [], ◌∷◌, IfSome, None, OnErr, OnOk, false, length, nat_lt, true};
 ghost use Rattle.std.specs.List.{All, Contains};
 ghost use Rattle.mosaic_sources.specs.Rows.{most_listed};
-ghost use Rattle.nearest_window.specs.Indexes.{is_of, kept_behind, listed_of};
+ghost use Rattle.nearest_window.specs.Indexes.{is_of, kept_behind, listed_of, most_indexed};
 
 use mosaic_sources::RowIndex;
 use std::alloc::{AllocError, Global};
 use std::marker::Model;
 
 // So many bands are indexed at most.
-const MOST_KEPT: usize = 256;
+const MOST_INDEXED: usize = 256;
 
 // So many numbers all lists have together at most.
 const MOST_LISTED: u32 = 4_194_304;
@@ -87,9 +87,9 @@ impl Indexes {
 
     /// Whether one more band may be indexed.
     pub fn has_room(&self) -> bool
-        ensures room { result ≡ nat_lt (length self.now) 256 }
+        ensures room { result ≡ nat_lt (length self.now) most_indexed }
     {
-        self.kept.len() < MOST_KEPT
+        self.kept.len() < MOST_INDEXED
     }
 
     /// A band that was indexed. `None` exactly where it wasn't.

@@ -25,7 +25,7 @@ use crate::block_parts::{
 };
 use crate::indexes::Indexes;
 use crate::indexing::wanted_in;
-use crate::members::{Piece, band_of, kind_of};
+use crate::members::{Piece, band_of, band_type_of};
 use crate::missed::Missed;
 use crate::paint::paint_rows;
 use crate::picture::Picture;
@@ -437,7 +437,7 @@ impl<F: Folder> Lane<F> {
             x: rect.x,
             y: rect.y,
         };
-        let kind = kind_of(cat, key);
+        let kind = band_type_of(cat, key);
         let sample = load_sample(cat, folder, &mut self.files, pixel, loads)?;
         Ok(Block::pack(alloc, kind, &[sample])?)
     }
@@ -470,7 +470,7 @@ impl<F: Folder> Lane<F> {
             return None;
         }
         let sample = self.recalled.find(pixel_at(key, rect))?;
-        match Block::pack(alloc, kind_of(cat, key), &[sample]) {
+        match Block::pack(alloc, band_type_of(cat, key), &[sample]) {
             Ok(block) => Some(block),
             Err(_) => None,
         }

@@ -2,7 +2,7 @@
 ghost use Rattle.std.specs.Prelude.{◌≡◌, ℕ, ◌+◌, ◌*◌, ◌<◌, ◌≤◌, ◌^◌, length, All, true, is_some, unwrap_or, pos};
 ghost use Rattle.std.specs.Prelude.{slice_index_or, if◌then◌else◌};
 ghost use Rattle.std.specs.Ordering.{int_eq};
-ghost use Rattle.nearest_window.specs.Canvases.{IsMerged, IsUnder, blank, filled_with};
+ghost use Rattle.nearest_window.specs.Canvases.{IsMerged, IsMergedFrom, blank, filled_with};
 ghost use Rattle.nearest_window.specs.Taken.{TakesPixel, is_plain, taken_by};
 
 use crate::taking::{BLANK, Taking};
@@ -23,7 +23,7 @@ pub struct Place {
 fn take_each(taking: &Taking, kind: PixelType, pixels: &[Sample], base: usize, out: &mut [Sample])
     requires pixels { base + length out.old ≤ length pixels.now }
     requires near { All (TakesPixel taking.now) pixels.now }
-    ensures taken { IsUnder taking.now kind pixels.now base out.old out.new }
+    ensures taken { IsMergedFrom taking.now kind pixels.now base out.old out.new }
 {
     for at in 0..out.len() {
         out[at] = taking.under(kind, out[at], pixels[base + at]);

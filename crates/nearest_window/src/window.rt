@@ -11,7 +11,7 @@ ghost use Rattle.band_blocks.specs.Contents.{most_calls};
 ghost use Rattle.band_blocks.specs.Open.{IsUnchanged};
 ghost use Rattle.nearest_window.specs.Lanes.{held_count, room_of};
 ghost use Rattle.nearest_window.specs.Right.{IsReady, slack_of, TellsChangeIn};
-ghost use Rattle.nearest_window.specs.Shown.{IsInBand, IsWindow, IsPictureOf, IsWhole};
+ghost use Rattle.nearest_window.specs.Shown.{IsInBand, IsWindow, IsPictureOf, ShowsWindow};
 
 use crate::Lane;
 use crate::picture::Picture;
@@ -40,7 +40,7 @@ fn window_of<'a>(cat: &Catalog, window: Window) -> Picture<'a>
     requires window { IsWindow cat.now window }
     requires some { 0 < window.rect.w }
     ensures picture { IsPictureOf cat.now result }
-    ensures whole { IsWhole window result }
+    ensures whole { ShowsWindow window result }
     ensures valid { IsCatalog cat.now }
 {
     // This call is made for the proof: it says what holds of every catalog.

@@ -8,7 +8,7 @@ use Rattle.outside.specs.Streams.{Gets, GetsPart}
 use Rattle.outside.proofs.Sinks.{gets-none, gets-then}
 use Rattle.error_lines.specs.declared.faults.Fault.{Fault}
 use Rattle.error_lines.specs.Faults.{IsOutside}
-use Rattle.error_lines.specs.Steps.{Step, Prints, Warns, Publishes, printed, published, publishes, cut, applied, all_done, IsFirstPart, AreDone, Goes}
+use Rattle.error_lines.specs.Steps.{Step, Prints, Warns, Publishes, printed, published, publishes, cut_short, applied, all_done, IsFirstPart, AreDone, Goes}
 use Rattle.output_copies.specs.Copying.{spoken}
 use Rattle.output_copies.specs.Steps.{unless_quiet}
 use Rattle.write_back.specs.Files.{with_files}
@@ -43,7 +43,7 @@ behind : List Step → ℕ → ℕ
 behind [] n = n
 behind (step ∷ a) n = suc (behind a n)
 
-cut_behind : (a b : List Step) (n k : ℕ) → cut (behind a n) k (a ++ b) ≡ a ++ cut n k b
+cut_behind : (a b : List Step) (n k : ℕ) → cut_short (behind a n) k (a ++ b) ≡ a ++ cut_short n k b
 unfolding behind
 cut_behind [] b n k = refl
 cut_behind (step ∷ a) b n k = ap (λ (s : List Step). step ∷ s) (cut_behind a b n k)
@@ -73,38 +73,38 @@ done_same a b m names before after same done = record {
 }
 
 -- nothing is begun
-cut_none : (steps : List Step) → AreSame (cut 0 0 steps) []
+cut_none : (steps : List Step) → AreSame (cut_short 0 0 steps) []
 cut_none [] = (refl, refl)
 cut_none (Prints text ∷ steps) = (refl, refl)
 cut_none (Warns line ∷ steps) = (refl, refl)
 cut_none (Publishes name bytes ∷ steps) = (refl, refl)
 
-begun_front : (k : ℕ) (step : Step) (a b : List Step) → AreSame (cut 0 k (step ∷ (a ++ b))) (cut 0 k (step ∷ a))
+begun_front : (k : ℕ) (step : Step) (a b : List Step) → AreSame (cut_short 0 k (step ∷ (a ++ b))) (cut_short 0 k (step ∷ a))
 begun_front k (Prints text) a b = (refl, refl)
 begun_front k (Warns line) a b = (refl, refl)
 begun_front k (Publishes name bytes) a b = (refl, refl)
 
 -- a first part of steps is one of more steps
-cut_front : (a b : List Step) (n k : ℕ) → (i : ℕ) × (j : ℕ) × AreSame (cut i j (a ++ b)) (cut n k a)
+cut_front : (a b : List Step) (n k : ℕ) → (i : ℕ) × (j : ℕ) × AreSame (cut_short i j (a ++ b)) (cut_short n k a)
 cut_front [] b zero k = (0, 0, cut_none b)
 cut_front [] b (suc n) k = (0, 0, cut_none b)
 cut_front (step ∷ a) b zero k = (0, k, begun_front k step a b)
 cut_front (step ∷ a) b (suc n) k =
     let more = cut_front a b n k in
-    (suc more.0, more.1, same_behind step (cut more.0 more.1 (a ++ b)) (cut n k a) more.2)
+    (suc more.0, more.1, same_behind step (cut_short more.0 more.1 (a ++ b)) (cut_short n k a) more.2)
 
 -- a run that the outside ended before more steps
 pub goes_stop : (a b : List Step) (m : Files) (f : Fault) (names : Option Files) (before after : Option (List ℕ)) → Goes (all_done a) m (Err f) names before after → Goes (all_done (a ++ b)) m (Err f) names before after
 goes_stop a b m f names before after (inl h) = absurd cc
 goes_stop a b m f names before after (inr h) =
     let at = cut_front a b h.1.1.0 h.1.1.1 in
-    let same : AreSame (cut at.0 at.1 (a ++ b)) h.1.0 = subst (λ (s : List Step). AreSame (cut at.0 at.1 (a ++ b)) s) (sym h.1.1.2) at.2 in
-    inr (h.0, (cut at.0 at.1 (a ++ b), (at.0, at.1, refl), done_same (cut at.0 at.1 (a ++ b)) h.1.0 m names before after same h.1.2))
+    let same : AreSame (cut_short at.0 at.1 (a ++ b)) h.1.0 = subst (λ (s : List Step). AreSame (cut_short at.0 at.1 (a ++ b)) s) (sym h.1.1.2) at.2 in
+    inr (h.0, (cut_short at.0 at.1 (a ++ b), (at.0, at.1, refl), done_same (cut_short at.0 at.1 (a ++ b)) h.1.0 m names before after same h.1.2))
 
 -- the outside failed before the first step
 pub goes_nowhere : (steps : List Step) (m : Files) (f : Fault) (names : Option Files) (old : Option (List ℕ)) → names ≡ Some m → IsOutside f → Goes (all_done steps) m (Err f) names old old
 goes_nowhere steps m f names old is out =
-    inr (out, (cut 0 0 steps, (0, 0, refl), done_same (cut 0 0 steps) [] m names old old (cut_none steps) (record { printed = gets-none old; published = is })))
+    inr (out, (cut_short 0 0 steps, (0, 0, refl), done_same (cut_short 0 0 steps) [] m names old old (cut_none steps) (record { printed = gets-none old; published = is })))
 
 pub goes_refused : (steps : List Step) (m : Files) (r : Result (Unit {0}) Fault) (f : Fault) (names : Option Files) (old : Option (List ℕ)) → r ≡ Err f → names ≡ Some m → IsOutside f → Goes (all_done steps) m r names old old
 goes_refused steps m r f names old is told out = subst (λ (e : Result (Unit {0}) Fault). Goes (all_done steps) m e names old old) (sym is) (goes_nowhere steps m f names old told out)
@@ -165,7 +165,7 @@ publishes_printed : (files : List (List ℕ × List ℕ)) → printed (publishes
 publishes_printed [] = refl
 publishes_printed (file ∷ files) = publishes_printed files
 
-cut_publishes : (n : ℕ) (files : List (List ℕ × List ℕ)) → publishes (take n files) ≡ cut n 0 (publishes files)
+cut_publishes : (n : ℕ) (files : List (List ℕ × List ℕ)) → publishes (take n files) ≡ cut_short n 0 (publishes files)
 cut_publishes zero [] = refl
 cut_publishes zero (file ∷ files) = refl
 cut_publishes (suc n) [] = refl

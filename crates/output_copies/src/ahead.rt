@@ -7,7 +7,7 @@ ghost use Rattle.outside.specs.Streams.{Gets, GetsPart};
 ghost use Rattle.catalog.specs.Drivers.{Dataset};
 ghost use Rattle.lane_teams.specs.Ready.{AreLanesReady};
 ghost use Rattle.strip_copies.specs.Copies.{IsRoomFor, IsTranslation};
-ghost use Rattle.error_lines.specs.Progress.{progress};
+ghost use Rattle.error_lines.specs.Progress.{progress, progress_len};
 ghost use Rattle.output_copies.specs.Ahead.{MayBeRead, MayBeWritten, WereRead, WereWritten};
 ghost use Rattle.output_copies.specs.Copying.{spoken, IsFilled, MayEnd, Tells, TellsChange};
 ghost use Rattle.output_copies.specs.Parts.{AreBehind, ArePart, BeginsWith};
@@ -407,11 +407,11 @@ fn tell_behind<O: Sink>(
     plan: &Plan,
     last: Lines,
 ) -> Result<usize, Fault>
-    requires told { told ≤ 49 }
+    requires told { told ≤ progress_len }
     requires last { ArePart plan.now last }
     ensures told { (before : Option (List ℕ)) → Gets (spoken quiet (take told progress)) before (O.got out.old) →
         Tells quiet result before (O.got out.new) }
-    ensures within { IfOk result (λ next. next ≤ 49) }
+    ensures within { IfOk result (λ next. next ≤ progress_len) }
     ensures quiet { quiet ≡ true → out.new ≡ out.old }
     ensures faults { IfErr result (λ f. f ≡ Fault.OutFault) }
     ensures ends { (names : Option Files) (faults : ℕ) → MayEnd names faults faults (O.faults out.old)
@@ -435,11 +435,11 @@ fn tell_and_answer<O: Sink>(
     last: Lines,
     read: Result<(), Fault>,
 ) -> Result<usize, Fault>
-    requires told { told ≤ 49 }
+    requires told { told ≤ progress_len }
     requires last { ArePart plan.now last }
     ensures told { (before : Option (List ℕ)) → Gets (spoken quiet (take told progress)) before (O.got out.old) →
         Tells quiet result before (O.got out.new) }
-    ensures within { IfOk result (λ next. next ≤ 49) }
+    ensures within { IfOk result (λ next. next ≤ progress_len) }
     ensures read { IfOk result (λ next. read ≡ Ok tt) }
     ensures quiet { quiet ≡ true → out.new ≡ out.old }
     ensures ends { (names : Option Files) (before now : ℕ) → MayEnd names before now 0 0 read →

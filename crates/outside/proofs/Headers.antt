@@ -10,7 +10,7 @@ use Rattle.std.proofs.lemmas.Slice.Eq.{bytes_eq-Decides}
 use Rattle.std.proofs.lemmas.Grind.{flat_map-append}
 use Rattle.lists_and_answers.specs.Texts.{same_letters}
 use Rattle.outside.specs.Paths.{with_part, parts_of, pieces, joined, is_absolute, is_kept, spelled, normal, IsName}
-use Rattle.outside.specs.Names.{kinds, kind_in, kind_of, extension_of, ending_of, is_raw, has_no_lower, header_ending, with_header_ending, header_of}
+use Rattle.outside.specs.Names.{extensions, extension_in, extension_of_ending, extension_of, ending_of, is_raw, has_no_lower, header_ending, with_header_ending, header_of}
 use Rattle.outside.specs.declared.name.Ext.{Ext}
 use Rattle.outside.proofs.PathParts.{parts_of-push}
 use Rattle.outside.proofs.Normal.{Free, step, pieces-one, pieces-append}
@@ -106,7 +106,7 @@ replaced fore last other is plain new e = ⊎_elim
     ap normal (spell other) ∙ normal-last some.0 other new ∙ ap (λ (f : List ℕ). f ++ other) same)
     is
 
--- the endings of the kinds have three bytes
+-- the endings of the extensions have three bytes
 
 abbrev has_threes : List (List ℕ × Ext) → Bool
 has_threes ks = list_all (λ k. length k.0 == 3) ks
@@ -117,17 +117,17 @@ same-length a b e =
     ∙ ap length ((bytes_eq-Decides (map to_ascii_lowercase a) (map to_ascii_lowercase b)).0 e)
     ∙ length-map b to_ascii_lowercase
 
-three-in : (ks : List (List ℕ × Ext)) (ending : List ℕ) → has_threes ks ≡ true → is_raw (kind_in ks ending) ≡ true → length ending ≡ 3
+three-in : (ks : List (List ℕ × Ext)) (ending : List ℕ) → has_threes ks ≡ true → is_raw (extension_in ks ending) ≡ true → length ending ≡ 3
 three-in [] ending threes raw = absurd (true≢false (sym raw))
 three-in (k ∷ ks) ending threes raw = go (three-in ks ending (and_parts (length k.0 == 3) (has_threes ks) threes).1) (same_letters ending k.0) refl raw
   where
-    go : (is_raw (kind_in ks ending) ≡ true → length ending ≡ 3) → (r : Bool) → same_letters ending k.0 ≡ r → is_raw (cond r (Some k.1) (kind_in ks ending)) ≡ true → length ending ≡ 3
+    go : (is_raw (extension_in ks ending) ≡ true → length ending ≡ 3) → (r : Bool) → same_letters ending k.0 ≡ r → is_raw (cond r (Some k.1) (extension_in ks ending)) ≡ true → length ending ≡ 3
     go rest true e h = same-length ending k.0 e ∙ eqb-true (length k.0) 3 (and_parts (length k.0 == 3) (has_threes ks) threes).0
     go rest false e h = rest h
 
-three : (ending : List ℕ) → is_raw (kind_of ending) ≡ true → length ending ≡ 3
-unfolding kind_of
-three ending raw = three-in kinds ending refl raw
+three : (ending : List ℕ) → is_raw (extension_of_ending ending) ≡ true → length ending ≡ 3
+unfolding extension_of_ending
+three ending raw = three-in extensions ending refl raw
 
 record HeaderEnding (ending : List ℕ) : Type 0 where
   pub long : length ending ≡ 3
@@ -156,7 +156,7 @@ header-name name ending new w long h n =
     ap (λ (t : List ℕ). length (t ++ new)) cut ∙ length-append fore new ∙ omega (arith, h.long) in
     record { is_normal = ap normal back ∙ normal_new ∙ sym back; some = omega (arith, same, n.some); fits = omega (arith, same, n.fits) }
 
-header-raw : (name : List ℕ) (r : Option (List ℕ)) → ending_of name ≡ r → is_raw (option_and_then kind_of r) ≡ true → IsName name → IsName (with_header_ending name (unwrap_or r []))
+header-raw : (name : List ℕ) (r : Option (List ℕ)) → ending_of name ≡ r → is_raw (option_and_then extension_of_ending r) ≡ true → IsName name → IsName (with_header_ending name (unwrap_or r []))
 header-raw name None e raw n = absurd (true≢false (sym raw))
 header-raw name (Some ending) e raw n = header-name name ending (header_ending ending) (ending-is name ending e) (three ending raw) (header-ending (has_no_lower ending)) n
 

@@ -1,6 +1,6 @@
 use Rattle.std.proofs.Common.{◌≡◌, ℕ, zero, suc, ◌-◌, ◌<◌, Bool, List, [], ◌∷◌, ◌++◌, length, take, get_or, ap, refl, sym, ◌∙◌, Bor, subst, arith, lit<}
 use Rattle.std.specs.Prelude.{slice_get, option_map, Option, ◌==◌, false}
-use Rattle.outside.specs.Paths.{is_kept, is_other, seen, with_part, parts_of, joined}
+use Rattle.outside.specs.Paths.{is_kept, is_other, dereferenced, with_part, parts_of, joined}
 use Rattle.std.proofs.lemmas.Str.{IsCharBoundary-after_ascii}
 use Rattle.std.specs.Str.{IsUtf8, IsCharBoundary}
 
@@ -8,31 +8,31 @@ pub parts_of-push : (absolute : Bool) (before parts : List (List ℕ)) (part : L
 parts_of-push absolute before [] part = refl
 parts_of-push absolute before (p ∷ parts) part = parts_of-push absolute (with_part absolute before p) parts part
 
-pub get-seen : (parts : List (Bor (List ℕ))) (i : ℕ) → slice_get (seen parts) i ≡ option_map (λ p. p.now) (slice_get parts i)
-get-seen [] i = refl
-get-seen (p ∷ parts) zero = refl
-get-seen (p ∷ parts) (suc i) = get-seen parts i
+pub get-dereferenced : (parts : List (Bor (List ℕ))) (i : ℕ) → slice_get (dereferenced parts) i ≡ option_map (λ p. p.now) (slice_get parts i)
+get-dereferenced [] i = refl
+get-dereferenced (p ∷ parts) zero = refl
+get-dereferenced (p ∷ parts) (suc i) = get-dereferenced parts i
 
-pub length-seen : (parts : List (Bor (List ℕ))) → length (seen parts) ≡ length parts
-length-seen [] = refl
-length-seen (p ∷ parts) = ap suc (length-seen parts)
+pub length-dereferenced : (parts : List (Bor (List ℕ))) → length (dereferenced parts) ≡ length parts
+length-dereferenced [] = refl
+length-dereferenced (p ∷ parts) = ap suc (length-dereferenced parts)
 
-pub seen-append : (xs ys : List (Bor (List ℕ))) → seen (xs ++ ys) ≡ seen xs ++ seen ys
-seen-append [] ys = refl
-seen-append (x ∷ xs) ys = ap (λ t. x.now ∷ t) (seen-append xs ys)
+pub dereferenced-append : (xs ys : List (Bor (List ℕ))) → dereferenced (xs ++ ys) ≡ dereferenced xs ++ dereferenced ys
+dereferenced-append [] ys = refl
+dereferenced-append (x ∷ xs) ys = ap (λ t. x.now ∷ t) (dereferenced-append xs ys)
 
-pub seen-take : (n : ℕ) (xs : List (Bor (List ℕ))) → seen (take n xs) ≡ take n (seen xs)
-seen-take zero xs = refl
-seen-take (suc n) [] = refl
-seen-take (suc n) (x ∷ xs) = ap (λ t. x.now ∷ t) (seen-take n xs)
+pub dereferenced-take : (n : ℕ) (xs : List (Bor (List ℕ))) → dereferenced (take n xs) ≡ take n (dereferenced xs)
+dereferenced-take zero xs = refl
+dereferenced-take (suc n) [] = refl
+dereferenced-take (suc n) (x ∷ xs) = ap (λ t. x.now ∷ t) (dereferenced-take n xs)
 
-pub kept-seen : (parts : List (Bor (List ℕ))) (last : Option (Bor (List ℕ))) → option_map (λ p. p.now) last ≡ option_map (λ p. p.now) (slice_get parts (length parts - 1)) → is_other (option_map (λ p. p.now) last) ≡ is_kept (seen parts)
-kept-seen parts last e = ap is_other (e ∙ sym (get-seen parts (length parts - 1)) ∙ ap (λ n. slice_get (seen parts) (n - 1)) (sym (length-seen parts)))
+pub kept-dereferenced : (parts : List (Bor (List ℕ))) (last : Option (Bor (List ℕ))) → option_map (λ p. p.now) last ≡ option_map (λ p. p.now) (slice_get parts (length parts - 1)) → is_other (option_map (λ p. p.now) last) ≡ is_kept (dereferenced parts)
+kept-dereferenced parts last e = ap is_other (e ∙ sym (get-dereferenced parts (length parts - 1)) ∙ ap (λ n. slice_get (dereferenced parts) (n - 1)) (sym (length-dereferenced parts)))
 
-pub ruleset parts = (seen-append, seen-take, length-seen)
+pub ruleset parts = (dereferenced-append, dereferenced-take, length-dereferenced)
 
 -- behind the slash that stands first
-pub after_slash : (text : List ℕ) (parts : List (Bor (List ℕ))) (n : ℕ) → IsUtf8 text → text ≡ joined (seen parts) → length parts ≡ n → false ≡ (n == 0) → IsCharBoundary text 1
+pub after_slash : (text : List ℕ) (parts : List (Bor (List ℕ))) (n : ℕ) → IsUtf8 text → text ≡ joined (dereferenced parts) → length parts ≡ n → false ≡ (n == 0) → IsCharBoundary text 1
 after_slash text [] n u is len e = cc
 after_slash text (p ∷ parts) n u is len e =
     let some : 0 < length text = subst (λ (t : List ℕ). 0 < length t) (sym is) (omega arith) in

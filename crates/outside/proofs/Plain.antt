@@ -7,13 +7,13 @@ use Rattle.outside.specs.Paths.{with_part, parts_of, pieces, joined, is_absolute
 use Rattle.outside.specs.Plain.{are_plain, behind_slash, adds_all}
 
 -- a part that begins with a byte that isn't a point
-abbrev IsPlain : List ℕ → Type 0
-IsPlain [] = ⊥
-IsPlain (b ∷ bs) = (b == 46) ≡ false
+abbrev IsPlainPart : List ℕ → Type 0
+IsPlainPart [] = ⊥
+IsPlainPart (b ∷ bs) = (b == 46) ≡ false
 
 abbrev ArePlain : List (List ℕ) → Type 0
 ArePlain [] = Unit {0}
-ArePlain (p ∷ ps) = IsPlain p × ArePlain ps
+ArePlain (p ∷ ps) = IsPlainPart p × ArePlain ps
 
 -- all but the first of these parts
 abbrev RestPlain : List (List ℕ) → Type 0
@@ -22,14 +22,14 @@ RestPlain (p ∷ ps) = ArePlain ps
 
 abbrev FirstPlain : List (List ℕ) → Type 0
 FirstPlain [] = ⊥
-FirstPlain (p ∷ ps) = IsPlain p
+FirstPlain (p ∷ ps) = IsPlainPart p
 
 both_plain : (ps : List (List ℕ)) → FirstPlain ps → RestPlain ps → ArePlain ps
 both_plain [] first rest = tt
 both_plain (p ∷ ps) first rest = (first, rest)
 
 -- such a part stays
-part_stays : (absolute : Bool) (before : List (List ℕ)) (part : List ℕ) → IsPlain part → with_part absolute before part ≡ before ++ part ∷ []
+part_stays : (absolute : Bool) (before : List (List ℕ)) (part : List ℕ) → IsPlainPart part → with_part absolute before part ≡ before ++ part ∷ []
 part_stays absolute before [] plain = absurd plain
 part_stays absolute before (b ∷ bs) plain =
     let other = cond (is_kept before) (take (length before - 1) before) (cond (not absolute) (before ++ codes ".." ∷ []) before) in

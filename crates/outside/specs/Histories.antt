@@ -2,5 +2,5 @@
 use Rattle.std.specs.Prelude.{ℕ, List, map}
 
 -- the bytes of a history, in order
-abbrev pub bytes_of : {B : Type 0} → List (ℕ × B) → List ℕ
-bytes_of items = map (λ p. p.0) items
+abbrev pub history_bytes : {B : Type 0} → List (ℕ × B) → List ℕ
+history_bytes items = map (λ p. p.0) items

@@ -8,7 +8,7 @@ pub mod Causes
 pub mod Memory
 pub mod Disks
 pub mod Schedules
-pub mod Tallies
+pub mod Counting
 -- What private clauses, views and proofs speak of.
 pub mod Held
 pub mod Histories

@@ -46,9 +46,9 @@ last_part name = unwrap_or (behind_last slash name) name
 unfoldable pub ending_of : List ℕ → Option (List ℕ)
 ending_of name = behind_last point (last_part name)
 
--- the kinds of files, each with the ending of its names
-abbrev pub kinds : List (List ℕ × Ext)
-kinds = (codes "bil", Bil)
+-- the extensions that are known, each with the ending that tells it
+abbrev pub extensions : List (List ℕ × Ext)
+extensions = (codes "bil", Bil)
     ∷ (codes "bip", Bip)
     ∷ (codes "bsq", Bsq)
     ∷ (codes "dt0", Dt0)
@@ -60,18 +60,18 @@ kinds = (codes "bil", Bil)
     ∷ (codes "vrt", Vrt)
     ∷ []
 
--- the kind that a table has for an ending
-abbrev pub kind_in : List (List ℕ × Ext) → List ℕ → Option Ext
-kind_in [] ending = None
-kind_in (k ∷ ks) ending = if same_letters ending k.0 then Some k.1 else kind_in ks ending
+-- the extension that a table has for an ending
+abbrev pub extension_in : List (List ℕ × Ext) → List ℕ → Option Ext
+extension_in [] ending = None
+extension_in (k ∷ ks) ending = if same_letters ending k.0 then Some k.1 else extension_in ks ending
 
--- the kind of an ending
-unfoldable pub kind_of : List ℕ → Option Ext
-kind_of ending = kind_in kinds ending
+-- the extension of an ending
+unfoldable pub extension_of_ending : List ℕ → Option Ext
+extension_of_ending ending = extension_in extensions ending
 
 -- the kind that a name's ending tells
 unfoldable pub extension_of : List ℕ → Option Ext
-extension_of name = option_and_then kind_of (ending_of name)
+extension_of name = option_and_then extension_of_ending (ending_of name)
 
 -- it is a kind of raw data, which has a header beside it
 abbrev pub is_raw : Option Ext → Bool

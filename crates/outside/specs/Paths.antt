@@ -10,8 +10,8 @@ abbrev pub longest_name : ℕ
 longest_name = 4096
 
 -- the parts that references stand for
-abbrev pub seen : List (Bor (List ℕ)) → List (List ℕ)
-seen parts = map (λ p. p.now) parts
+abbrev pub dereferenced : List (Bor (List ℕ)) → List (List ℕ)
+dereferenced parts = map (λ p. p.now) parts
 
 -- a part is there, and it isn't `..`
 abbrev pub is_other : Option (List ℕ) → Bool

@@ -5,8 +5,8 @@ use Rattle.lists_and_answers.specs.Bytes.{point, slash}
 use Rattle.outside.specs.Paths.{parts_of, pieces, is_kept}
 
 -- whether a byte isn't a slash
-abbrev pub is_inside : ℕ → Bool
-is_inside c = not (c == slash)
+abbrev pub is_in_part : ℕ → Bool
+is_in_part c = not (c == slash)
 
 -- whether a part that begins here begins with a slash or a point
 abbrev pub begins_specially : Bool → ℕ → Bool

@@ -1,6 +1,6 @@
 // A sink in memory of which no call fails.
 ghost use Rattle.std.specs.Prelude.{◌≡◌, ◌↔◌, ◌++◌, [], Some, IfSome, IsSome, IsTrue};
-ghost use Rattle.outside.specs.Histories.{bytes_of};
+ghost use Rattle.outside.specs.Histories.{history_bytes};
 ghost use Rattle.outside.specs.Memory.{is_whole};
 
 use crate::history::History;
@@ -10,7 +10,7 @@ use std::alloc::Global;
 
 // Notes these bytes, one after another.
 fn note(history: &mut History<u8, ()>, bytes: &[u8])
-    ensures { bytes_of history.new.items ≡ bytes_of history.old.items ++ bytes.now }
+    ensures { history_bytes history.new.items ≡ history_bytes history.old.items ++ bytes.now }
 {
     for byte in bytes {
         *history = history.and(byte, &());
@@ -40,7 +40,7 @@ impl CalmSink {
 }
 
 impl Sink for CalmSink {
-    ghost got = { λ s. Some (bytes_of s.history.items) };
+    ghost got = { λ s. Some (history_bytes s.history.items) };
 
     ghost faults = { λ _. 0 };
 

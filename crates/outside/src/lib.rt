@@ -3,6 +3,7 @@
 
 mod calm_sink;
 mod counter;
+mod counting;
 mod disk;
 mod folder;
 mod history;
@@ -16,10 +17,10 @@ mod schedule;
 mod standard;
 mod streams;
 mod system;
-mod tally;
 mod text;
 
 pub use counter::Counter;
+pub use counting::CountingFolder;
 pub use disk::{DiskDraft, DiskFile, DiskFolder};
 pub use folder::{Failed, Folder, OpenFault, WriteFault};
 pub use memory::{CalmFolder, MemDraft, MemFile, MemFolder, MemoryFolder};
@@ -29,5 +30,4 @@ pub use schedule::{Failing, Listed, Made, Method, Never, Schedule};
 pub use standard::{StdInput, StdSink};
 pub use streams::{Input, Sink, put_all};
 pub use system::{fill_at, put_at};
-pub use tally::Tally;
 pub use text::Text;

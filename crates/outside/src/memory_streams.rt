@@ -1,6 +1,6 @@
 // An input and two sinks in memory. Their calls fail where a schedule says so, or never.
 ghost use Rattle.std.specs.Prelude.{◌≡◌, ◌≤◌, true, vec_len};
-ghost use Rattle.outside.specs.Histories.{bytes_of};
+ghost use Rattle.outside.specs.Histories.{history_bytes};
 
 use crate::history::History;
 use crate::schedule::{Listed, Never};
@@ -41,5 +41,5 @@ pub struct CalmSink {
     // memory wasn't refused so far
     pub(crate) whole: bool,
     pub(crate) history: History<u8, ()>,
-    ghost kept: { whole ≡ true → bytes.items ≡ bytes_of history.items },
+    ghost kept: { whole ≡ true → bytes.items ≡ history_bytes history.items },
 }

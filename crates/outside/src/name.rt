@@ -3,7 +3,8 @@ ghost use Rattle.std.specs.Prelude.{◌≡◌, ◌↔◌, ◌<◌, ℕ, length, 
 ghost use Rattle.std.specs.Option.{unwrap_or};
 ghost use Rattle.lists_and_answers.specs.Texts.{same_letters};
 ghost use Rattle.outside.specs.Paths.{normal, IsName, longest_name};
-ghost use Rattle.outside.specs.Names.{cut_last, behind_last, folder_part, last_part, ending_of, kind_of, extension_of};
+ghost use Rattle.outside.specs.Names.{cut_last, behind_last, folder_part, last_part, ending_of, extension_of_ending};
+ghost use Rattle.outside.specs.Names.{extension_of};
 ghost use Rattle.outside.specs.Names.{is_raw, has_no_lower, header_ending, header_of};
 ghost use Rattle.outside.specs.declared.name.NameFault.TheVariants as name_fault;
 
@@ -131,9 +132,9 @@ fn same_letters(a: &str, b: &str) -> bool
 }
 
 // The kind of an ending: one line for each kind.
-#[tactic(auto, unfolding(crate::specs::Names::kind_of))]
-fn kind_of(ending: &str) -> Option<Ext>
-    ensures { result ≡ kind_of ending.now }
+#[tactic(auto, unfolding(crate::specs::Names::extension_of_ending))]
+fn extension_of_ending(ending: &str) -> Option<Ext>
+    ensures { result ≡ extension_of_ending ending.now }
 {
     match ending {
         _ if same_letters(ending, "bil") => Some(Ext::Bil),
@@ -206,7 +207,7 @@ impl Name {
     pub fn extension(&self) -> Option<Ext>
         ensures kind { result ≡ extension_of self.now }
     {
-        kind_of(ending_of(self.text.as_str())?)
+        extension_of_ending(ending_of(self.text.as_str())?)
     }
 
     /// The name of the header beside raw data: its ending is `hdr`, or `HDR` where all letters of

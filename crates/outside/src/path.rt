@@ -2,8 +2,8 @@
 ghost use Rattle.std.specs.Prelude.{◌≡◌, ◌<◌, ◌≤◌, true, false, length, option_map, string_bytes, [], ◌∷◌};
 ghost use Rattle.std.specs.Prelude.{◌-◌, if◌then◌else◌, drop, slice_index, IfOk, IfSome, OnOk};
 ghost use Rattle.std.specs.List.{prefix_len};
-ghost use Rattle.outside.specs.Paths.{seen, with_part, parts_of, pieces, joined, normal, is_kept, is_absolute};
-ghost use Rattle.outside.specs.Plain.{are_plain, are_plain_behind, behind_slash, is_inside, add_the_same, adds_all};
+ghost use Rattle.outside.specs.Paths.{dereferenced, with_part, parts_of, pieces, joined, normal, is_kept, is_absolute};
+ghost use Rattle.outside.specs.Plain.{are_plain, are_plain_behind, behind_slash, is_in_part, add_the_same, adds_all};
 
 use crate::Text;
 use memchr::memchr;
@@ -11,7 +11,7 @@ use std::alloc::{AllocError, Global};
 
 // Whether the last part is one that `..` removes.
 fn ends_kept(parts: &[&str]) -> bool
-    ensures { result ≡ is_kept (seen parts.now) }
+    ensures { result ≡ is_kept (dereferenced parts.now) }
 {
     match parts.last() {
         Some(last) => *last != "..",
@@ -22,7 +22,8 @@ fn ends_kept(parts: &[&str]) -> bool
 // Takes one part more.
 #[tactic(auto, using(crate::proofs::PathParts::parts))]
 fn take_part<'a>(absolute: bool, parts: &mut Vec<&'a str>, part: &'a str) -> Result<(), AllocError>
-    ensures ok { OnOk result (seen parts.new.items ≡ with_part absolute (seen parts.old.items) part.now) }
+    ensures ok { OnOk result (dereferenced parts.new.items ≡
+        with_part absolute (dereferenced parts.old.items) part.now) }
 {
     if part.is_empty() || part == "." {
         return Ok(());
@@ -43,7 +44,7 @@ fn take_part<'a>(absolute: bool, parts: &mut Vec<&'a str>, part: &'a str) -> Res
 
 // The parts that stay. Empty parts and points are passed over without being cut off one by one.
 fn normal_parts(alloc: Global, absolute: bool, text: &str) -> Result<Vec<&str>, AllocError>
-    ensures { IfOk result (λ parts. seen parts.items ≡ parts_of absolute [] (pieces text.now)) }
+    ensures { IfOk result (λ parts. dereferenced parts.items ≡ parts_of absolute [] (pieces text.now)) }
 {
     let mut parts = Vec::new(alloc);
     let mut rest = behind_dropped(text);
@@ -63,7 +64,7 @@ fn normal_parts(alloc: Global, absolute: bool, text: &str) -> Result<Vec<&str>, 
 
 // The parts with a slash before each.
 fn join(alloc: Global, parts: &[&str]) -> Result<String, AllocError>
-    ensures { IfOk result (λ text. string_bytes text ≡ joined (seen parts.now)) }
+    ensures { IfOk result (λ text. string_bytes text ≡ joined (dereferenced parts.now)) }
 {
     let mut text = String::from_str(alloc, "")?;
     for part in parts {
@@ -97,7 +98,7 @@ fn begins_plainly(text: &[u8]) -> bool
 // How many bytes stand in front of the first slash.
 #[tactic(auto, using(crate::proofs::Slashes::first_slash, crate::proofs::Slashes::slash_within))]
 fn part_len(text: &[u8]) -> usize
-    ensures count { result ≡ prefix_len is_inside text.now }
+    ensures count { result ≡ prefix_len is_in_part text.now }
     ensures bound { result ≤ length text.now }
 {
     memchr(b'/', text).unwrap_or(text.len())

@@ -1,7 +1,8 @@
 // What words ask of a translation, and the heads of sources.
 ghost use Rattle.std.specs.Prelude.{◌≡◌, ◌<◌, ◌≤◌, All, IfOk, IfSome};
 ghost use Rattle.geotransform.specs.Decimal.{IsRead};
-ghost use Rattle.translate_plan.specs.Options.{IsDriver, IsWhole, IsView, IsOutSize, IsWord};
+ghost use Rattle.translate_plan.specs.Options.{IsDriver, IsShortNumber, IsView, IsOutSize};
+ghost use Rattle.catalog.specs.Nodata.{IsNodataWord};
 
 use catalog::{Head, NodataWord, head_of};
 use esri_hdr::Layout;
@@ -115,7 +116,7 @@ fn driver_of(name: &Name) -> Driver
 
 // A number of up to nine digits.
 fn whole(word: Option<&str>) -> Option<i64>
-    ensures { IfSome result IsWhole }
+    ensures { IfSome result IsShortNumber }
 {
     let n = word?.parse::<i32>().ok()?;
     if n > -1_000_000_000 && n < 1_000_000_000 {
@@ -198,7 +199,7 @@ fn outsize_of(ask: &str) -> Option<Option<(OutSize, OutSize)>>
 }
 
 fn number_of(word: &str) -> Option<NodataWord>
-    ensures { IfSome result IsWord }
+    ensures { IfSome result IsNodataWord }
 {
     if let Ok(n) = word.parse::<i64>() {
         return Some(NodataWord::Number(n as i128));
@@ -208,7 +209,7 @@ fn number_of(word: &str) -> Option<NodataWord>
 }
 
 fn nodata_of(ask: &str) -> Option<NodataWord>
-    ensures { IfSome result IsWord }
+    ensures { IfSome result IsNodataWord }
 {
     match word_behind(ask, " nodata ") {
         None => Some(NodataWord::Absent),
@@ -217,7 +218,7 @@ fn nodata_of(ask: &str) -> Option<NodataWord>
     }
 }
 
-fn kind_of(ask: &str) -> Option<Option<PixelType>> {
+fn asked_type(ask: &str) -> Option<Option<PixelType>> {
     match word_behind(ask, " type ") {
         None => Some(None),
         Some(name) => Some(Some(PixelType::read_name(name.as_bytes(), false)?)),
@@ -268,12 +269,12 @@ struct Settings {
 fn settings_of(ask: &str) -> Option<Settings>
     ensures view { IfSome result (λ s. IsView s.view) }
     ensures outsize { IfSome result (λ s. IfSome s.outsize (λ o. IsOutSize o.0 × IsOutSize o.1)) }
-    ensures nodata { IfSome result (λ s. IsWord s.nodata) }
+    ensures nodata { IfSome result (λ s. IsNodataWord s.nodata) }
 {
     let view = view_of(ask)?;
     let outsize = outsize_of(ask)?;
     let nodata = nodata_of(ask)?;
-    let kind = kind_of(ask)?;
+    let kind = asked_type(ask)?;
     if !is_known(ask) {
         return None;
     }

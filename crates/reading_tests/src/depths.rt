@@ -3,7 +3,7 @@ use crate::fixtures::{Case, all_hold};
 use crate::nested::{Shape, chain};
 use crate::reads::{Job, Picture, Place, shows};
 use geotransform::Sample;
-use outside::{CalmFolder, Tally};
+use outside::{CalmFolder, CountingFolder};
 use std::alloc::Global;
 use std::process::Abort;
 use std::test::*;
@@ -61,10 +61,10 @@ impl Picture for Plain {
 const RECTS: [Place; 3] = [(0, (3, 20, 1, 1)), (0, (21, 4, 1, 1)), (0, (1, 2, 20, 18))];
 
 // Whether the first mosaic is read through a new lane of this capacity, and holds nothing but 255.
-fn is_blank<R: Abort>(
+fn shows_white<R: Abort>(
     rt: &R,
     alloc: Global,
-    folder: &mut Tally<CalmFolder>,
+    folder: &mut CountingFolder<CalmFolder>,
     capacity: u32,
 ) -> bool {
     let job = Job {
@@ -80,11 +80,11 @@ fn is_blank<R: Abort>(
 fn is_bounded<R: Abort>(
     rt: &R,
     alloc: Global,
-    folder: &mut Tally<CalmFolder>,
+    folder: &mut CountingFolder<CalmFolder>,
     capacity: u32,
 ) -> bool {
     let before = folder.reads();
-    let blank = is_blank(rt, alloc, folder, capacity);
+    let blank = shows_white(rt, alloc, folder, capacity);
     blank && folder.reads().saturating_sub(before) < ALL_PIXELS
 }
 
@@ -92,7 +92,7 @@ fn is_bounded<R: Abort>(
 fn is_always_bounded<R: Abort>(
     rt: &R,
     alloc: Global,
-    folder: &mut Tally<CalmFolder>,
+    folder: &mut CountingFolder<CalmFolder>,
     capacities: &[u32],
 ) -> bool {
     for capacity in capacities {
@@ -111,7 +111,7 @@ impl Case for Repeated<'_> {
             places: self.0,
             tested: self.1,
         };
-        let mut folder = Tally::new(chain(rt, alloc, &NAMES, shape, &[255; 576]));
+        let mut folder = CountingFolder::new(chain(rt, alloc, &NAMES, shape, &[255; 576]));
         is_always_bounded(rt, alloc, &mut folder, &[1, 64, 1000])
     }
 }

@@ -2,9 +2,9 @@ use crate::calls::{has_two, is_written, open_fault, read_two, write_file};
 use crate::fixtures::{Case, all_hold, calm_folder, name_of};
 use lists_and_answers::Items;
 use outside::{
-    CalmInput, CalmSink, Failed, Failing, Folder, Input, Listed, MemFolder, MemInput, MemSink,
-    MemoryFolder, Method, Name, Never, OpenFault, Schedule, Sink, StdInput, StdSink, Tally,
-    put_all,
+    CalmInput, CalmSink, CountingFolder, Failed, Failing, Folder, Input, Listed, MemFolder,
+    MemInput, MemSink, MemoryFolder, Method, Name, Never, OpenFault, Schedule, Sink, StdInput,
+    StdSink, put_all,
 };
 use std::alloc::Global;
 use std::cell::Cell;
@@ -124,12 +124,12 @@ fn a_view_counts_on(rt: HostRuntime) {
 }
 
 // Whether a folder has opened, read and written so many times.
-fn has_counts<F: Folder>(folder: &Tally<F>, opens: u64, reads: u64, writes: u64) -> bool {
+fn has_counts<F: Folder>(folder: &CountingFolder<F>, opens: u64, reads: u64, writes: u64) -> bool {
     folder.opens() == opens && folder.reads() == reads && folder.writes() == writes
 }
 
 // Whether a view counts from nothing.
-fn view_counts<R: Abort, F: Folder>(rt: &R, folder: &mut Tally<F>, a: &Name) -> bool {
+fn view_counts<R: Abort, F: Folder>(rt: &R, folder: &mut CountingFolder<F>, a: &Name) -> bool {
     let mut view = folder.fork().expect(rt, "memory");
     let counts = has_two(&mut view, a, *b"bc") && has_counts(&view, 1, 1, 0);
     folder.absorb(view);
@@ -137,7 +137,12 @@ fn view_counts<R: Abort, F: Folder>(rt: &R, folder: &mut Tally<F>, a: &Name) -> 
 }
 
 // Whether each call is counted, and those of a view with it.
-fn counts_calls<R: Abort, F: Folder>(rt: &R, folder: &mut Tally<F>, a: &Name, b: &Name) -> bool {
+fn counts_calls<R: Abort, F: Folder>(
+    rt: &R,
+    folder: &mut CountingFolder<F>,
+    a: &Name,
+    b: &Name,
+) -> bool {
     open_fault(folder, b) == Some(OpenFault::Absent)
         && is_written(folder, b)
         && has_two(folder, b, *b"xy")
@@ -145,17 +150,17 @@ fn counts_calls<R: Abort, F: Folder>(rt: &R, folder: &mut Tally<F>, a: &Name, b:
         && has_counts(folder, 3, 2, 1)
 }
 
-// Whether a tally counts, and its folder gets what was put.
+// Whether a counting folder counts, and its folder gets what was put.
 fn tallies<R: Abort>(rt: &R, alloc: Global) -> bool {
     let a = name_of(rt, alloc, "a");
     let b = name_of(rt, alloc, "b");
-    let mut folder = Tally::new(calm_folder(rt, alloc, &[("a", b"abc".as_slice())]));
+    let mut folder = CountingFolder::new(calm_folder(rt, alloc, &[("a", b"abc".as_slice())]));
     let counts = counts_calls(rt, &mut folder, &a, &b);
     counts && has_bytes(&folder.into_inner(), &b, b"\0xy\0z")
 }
 
 #[test]
-fn a_tally_counts(rt: HostRuntime) {
+fn a_counting_folder_counts(rt: HostRuntime) {
     assert!(rt; tallies(&rt, rt.alloc()));
 }
 

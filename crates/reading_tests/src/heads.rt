@@ -16,7 +16,7 @@ const HEADER: &[u8] = b"NROWS 2\nNCOLS 3\nNBANDS 2\nNBITS 8\nLAYOUT BIL\nNODATA 
 const TWELVE: [u8; 12] = [0; 12];
 
 // What a word of a table stands for: the bytes of a file.
-fn bytes_of(word: &str) -> &'static [u8] {
+fn file_bytes(word: &str) -> &'static [u8] {
     match word {
         "header" => HEADER,
         "twelve" => &TWELVE,
@@ -91,7 +91,7 @@ fn holding<R: Abort>(rt: &R, alloc: Global, call: u64, files: &str) -> MemFolder
     let mut folder = folder_of(rt, alloc, call, &[]);
     for file in files.split_ascii_whitespace() {
         let (name, bytes) = cut(file, "=");
-        put(rt, alloc, &mut folder, name, bytes_of(bytes));
+        put(rt, alloc, &mut folder, name, file_bytes(bytes));
     }
     folder
 }
@@ -207,7 +207,7 @@ fn head_in<R: Abort>(
         .expect(rt, "a head")
 }
 
-fn is_at(geo: GeoTransform, corner: (i128, i128), step: (i128, i128)) -> bool {
+fn lies_at(geo: GeoTransform, corner: (i128, i128), step: (i128, i128)) -> bool {
     (geo.ox.get(), geo.oy.get()) == corner && (geo.dx.get(), geo.dy.get()) == step
 }
 
@@ -244,7 +244,7 @@ fn is_of_tiles(head: &Head) -> bool {
     let step = (149_999_999_999_994, -149_999_999_999_994);
     is_shaped(head, Kind::Vrt, Size { w: 2401, h: 1201 }, 1, band)
         && is_named(head, "d/out.vrt d/N00E000.hgt d/N00E001.hgt")
-        && matches!(head.geo, Some(geo) if is_at(geo, corner, step))
+        && matches!(head.geo, Some(geo) if lies_at(geo, corner, step))
 }
 
 fn has_mosaic<R: Abort>(rt: &R, alloc: Global) -> bool {

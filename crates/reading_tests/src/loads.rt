@@ -9,7 +9,7 @@ use crate::fixtures::{
 use band_blocks::{Block, BlockKey, Counter, LoadFault, OpenFiles, block_at, load_block};
 use catalog::{Catalog, open_all};
 use geotransform::{Sample, read_whole};
-use outside::{CalmFolder, Folder, Name, Never, Tally};
+use outside::{CalmFolder, CountingFolder, Folder, Name, Never};
 use std::alloc::{AllocError, Global};
 use std::marker::Brand;
 use std::process::Abort;
@@ -179,7 +179,7 @@ fn gives<F: Folder, G: Folder>(
 
 // How many reads a first load of the block of a pixel takes that gives that, once the catalog was walked over other
 // files.
-fn counted<'a, R: Abort>(
+fn reads_of_load<'a, R: Abort>(
     rt: &R,
     alloc: Global,
     found: &[File<'a>],
@@ -190,7 +190,7 @@ fn counted<'a, R: Abort>(
 ) -> Option<u64> {
     let name = name_of(rt, alloc, name);
     let mut walked = calm_folder(rt, alloc, found);
-    let mut folder = Tally::new(calm_folder(rt, alloc, later));
+    let mut folder = CountingFolder::new(calm_folder(rt, alloc, later));
     if gives(alloc, &mut walked, &mut folder, &name, place, want) {
         return Some(folder.reads());
     }
@@ -206,7 +206,7 @@ fn answers<R: Abort>(
     place: (u32, u32, u32),
     want: &str,
 ) -> bool {
-    counted(rt, alloc, files, files, name, place, want).is_some()
+    reads_of_load(rt, alloc, files, files, name, place, want).is_some()
 }
 
 // Each byte is its place.
@@ -305,7 +305,7 @@ const FOUND: [File<'static>; 2] = [("a.bsq", &[0, 1, 2, 3]), ("a.hdr", b"NROWS 2
 impl Case for Change<'_> {
     // Whether that comes of a load from these files.
     fn holds<R: Abort>(&self, rt: &R, alloc: Global) -> bool {
-        counted(rt, alloc, &FOUND, self.0, "a.bsq", (0, 0, 0), self.1).is_some()
+        reads_of_load(rt, alloc, &FOUND, self.0, "a.bsq", (0, 0, 0), self.1).is_some()
     }
 }
 
@@ -339,7 +339,7 @@ impl Case for Pieces<'_> {
         let header = header_of(rt, alloc, columns);
         let data = vec![in alloc; 7u8; columns.saturating_mul(256)].expect(rt, "memory");
         let files: [File<'_>; 2] = [("a.bip", data.as_slice()), ("a.hdr", header.as_bytes())];
-        counted(rt, alloc, &files, &files, "a.bip", (255, 1, 0), want) == Some(calls)
+        reads_of_load(rt, alloc, &files, &files, "a.bip", (255, 1, 0), want) == Some(calls)
     }
 }
 
@@ -422,7 +422,7 @@ impl Case for Later<'_> {
         let later = between(rt, alloc, front, fill, back);
         let before: [File<'_>; 1] = [("g.asc", found.as_slice())];
         let then: [File<'_>; 1] = [("g.asc", later.as_slice())];
-        counted(rt, alloc, &before, &then, "g.asc", (0, 0, line), want) == Some(calls)
+        reads_of_load(rt, alloc, &before, &then, "g.asc", (0, 0, line), want) == Some(calls)
     }
 }
 
@@ -460,7 +460,7 @@ impl Case for Wide<'_> {
         let body = sevens(rt, alloc, columns);
         let text = grid(rt, alloc, size, body.as_slice());
         let files: [File<'_>; 1] = [("g.asc", text.as_slice())];
-        counted(rt, alloc, &files, &files, "g.asc", (0, 0, 0), want) == Some(calls)
+        reads_of_load(rt, alloc, &files, &files, "g.asc", (0, 0, 0), want) == Some(calls)
     }
 }
 
@@ -524,7 +524,7 @@ fn seventeen<R: Abort>(rt: &R, alloc: Global, cat: &mut Catalog) -> CalmFolder {
 fn opened(
     alloc: Global,
     cat: &Catalog,
-    folder: &mut Tally<CalmFolder>,
+    folder: &mut CountingFolder<CalmFolder>,
     ids: &[u32],
 ) -> Result<Option<u64>, AllocError> {
     let before = folder.opens();
@@ -553,7 +553,12 @@ const TURNS: [Turn<'static>; 3] = [
 ];
 
 // Whether a turn opens as many files.
-fn opens_so(alloc: Global, cat: &Catalog, folder: &mut Tally<CalmFolder>, turn: &Turn<'_>) -> bool {
+fn opens_so(
+    alloc: Global,
+    cat: &Catalog,
+    folder: &mut CountingFolder<CalmFolder>,
+    turn: &Turn<'_>,
+) -> bool {
     let (ids, opens) = *turn;
     match opened(alloc, cat, folder, ids) {
         Ok(found) => found == Some(opens),
@@ -564,7 +569,7 @@ fn opens_so(alloc: Global, cat: &Catalog, folder: &mut Tally<CalmFolder>, turn: 
 // The first of these turns that opens another number of files.
 fn first_unopened<R: Abort>(rt: &R, alloc: Global, turns: &[Turn<'_>]) -> Option<usize> {
     let mut cat = Catalog::new(alloc);
-    let mut folder = Tally::new(seventeen(rt, alloc, &mut cat));
+    let mut folder = CountingFolder::new(seventeen(rt, alloc, &mut cat));
     for (at, turn) in turns.iter().enumerate() {
         if !opens_so(alloc, &cat, &mut folder, turn) {
             return Some(at);

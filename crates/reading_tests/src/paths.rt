@@ -4,7 +4,7 @@ use crate::fixtures::add;
 use crate::nested::{Shape, chain, put_mosaic};
 use crate::reads::{Job, Picture, Place, shows};
 use geotransform::Sample;
-use outside::{CalmFolder, Tally};
+use outside::{CalmFolder, CountingFolder};
 use std::alloc::Global;
 use std::process::Abort;
 use std::test::*;
@@ -141,7 +141,7 @@ const POINTS: [Place; 7] = [
 
 // Whether the points have their pixels, and the walk and they take fewer reads than this.
 fn reads_fewer<R: Abort>(rt: &R, alloc: Global, most: u64) -> bool {
-    let mut folder = Tally::new(holding(rt, alloc));
+    let mut folder = CountingFolder::new(holding(rt, alloc));
     let picture = first(rt, alloc);
     let job = Job {
         name: "m0.vrt",

@@ -8,7 +8,7 @@ use std::test::*;
 
 // A call of a pool whose blocks have one sample, and what it answers.
 #[derive(Clone, Copy)]
-enum Step {
+enum PoolCall {
     // the number of the block, its sample, whether it is dirty, and what is dropped
     Admit(u64, Sample, bool, Option<(u64, Sample, bool)>),
     Find(u64, Option<Sample>),
@@ -17,9 +17,9 @@ enum Step {
     Held(u32),
 }
 
-use Step::{Admit, Find, Held, Patch, TakeDirty};
+use PoolCall::{Admit, Find, Held, Patch, TakeDirty};
 
-const ONE: [Step; 7] = [
+const ONE: [PoolCall; 7] = [
     Admit(1, 10, true, None),
     Held(1),
     Admit(2, 20, false, Some((1, 10, true))),
@@ -29,7 +29,7 @@ const ONE: [Step; 7] = [
     Held(0),
 ];
 
-const TWO: [Step; 12] = [
+const TWO: [PoolCall; 12] = [
     Admit(1, 10, true, None),
     Admit(2, 20, false, None),
     Find(1, Some(10)),
@@ -44,7 +44,7 @@ const TWO: [Step; 12] = [
     TakeDirty(None),
 ];
 
-const THREE: [Step; 12] = [
+const THREE: [PoolCall; 12] = [
     Admit(1, 10, false, None),
     Admit(2, 20, true, None),
     Admit(3, 30, false, None),
@@ -126,7 +126,7 @@ fn patch(pool: &mut Pool, number: u64, sample: Sample) -> bool {
 }
 
 // Whether a call answers so.
-fn is_told<R: Abort>(rt: &R, alloc: Global, pool: &mut Pool, step: Step) -> bool {
+fn is_told<R: Abort>(rt: &R, alloc: Global, pool: &mut Pool, step: PoolCall) -> bool {
     match step {
         Admit(number, sample, dirty, dropped) => {
             admits(rt, alloc, pool, (number, sample, dirty), dropped)
@@ -139,7 +139,12 @@ fn is_told<R: Abort>(rt: &R, alloc: Global, pool: &mut Pool, step: Step) -> bool
 }
 
 // The first of these calls that answers otherwise.
-fn first_untold<R: Abort>(rt: &R, alloc: Global, pool: &mut Pool, steps: &[Step]) -> Option<usize> {
+fn first_untold<R: Abort>(
+    rt: &R,
+    alloc: Global,
+    pool: &mut Pool,
+    steps: &[PoolCall],
+) -> Option<usize> {
     for (at, step) in steps.iter().enumerate() {
         if !is_told(rt, alloc, pool, *step) {
             return Some(at);
@@ -150,7 +155,12 @@ fn first_untold<R: Abort>(rt: &R, alloc: Global, pool: &mut Pool, steps: &[Step]
 
 // The first of these calls to a new pool that answers otherwise, or how many there are where the pool has another
 // capacity or still holds the third block.
-fn first_wrong<R: Abort>(rt: &R, alloc: Global, capacity: u32, steps: &[Step]) -> Option<usize> {
+fn first_wrong<R: Abort>(
+    rt: &R,
+    alloc: Global,
+    capacity: u32,
+    steps: &[PoolCall],
+) -> Option<usize> {
     let mut pool = Pool::new(alloc, capacity.clamp(1, 3)).expect(rt, "memory");
     let untold = first_untold(rt, alloc, &mut pool, steps);
     if pool.capacity() == capacity && !pool.holds(&key(3)) {

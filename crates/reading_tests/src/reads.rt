@@ -9,7 +9,7 @@ use band_blocks::{Counter, LoadFault};
 use catalog::{Catalog, open_all};
 use geotransform::{Rect, Sample, Size};
 use nearest_window::{Lane, Window};
-use outside::{CalmFolder, Folder, Name, Tally};
+use outside::{CalmFolder, CountingFolder, Folder, Name};
 use std::alloc::{AllocError, Global};
 use std::marker::Brand;
 use std::process::Abort;
@@ -252,7 +252,7 @@ pub fn samples_of<R: Abort, F: Folder>(
 pub fn reads_in<R: Abort, F: Folder>(
     rt: &R,
     alloc: Global,
-    folder: &mut Tally<F>,
+    folder: &mut CountingFolder<F>,
     job: Job,
 ) -> u64 {
     let before = folder.reads();

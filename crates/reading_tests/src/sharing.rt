@@ -8,7 +8,7 @@ use band_blocks::Counter;
 use catalog::{Catalog, open_all};
 use geotransform::{Rect, Sample, Size};
 use nearest_window::{Lane, Supply, Window};
-use outside::{Folder, MemFolder, Name, Tally};
+use outside::{CountingFolder, Folder, MemFolder, Name};
 use shared_lines::{Lines, Scene};
 use std::alloc::{AllocError, Global};
 use std::marker::Brand;
@@ -144,7 +144,7 @@ const SAMPLES: [Sample; 16] = [1, 2, 3, 4, 5, 6, 7, 8, 9, 10, 11, 12, 13, 14, 15
 // How many reads the walk and the views of so many lanes over so many lines take, where each gives the samples.
 fn reads_by(
     alloc: Global,
-    folder: &mut Tally<MemFolder>,
+    folder: &mut CountingFolder<MemFolder>,
     name: &Name,
     lanes: u32,
     count: u32,
@@ -159,7 +159,7 @@ fn reads_by(
 // Whether so many lanes over so many lines take four reads more than the walk alone.
 fn takes_four(
     alloc: Global,
-    folder: &mut Tally<MemFolder>,
+    folder: &mut CountingFolder<MemFolder>,
     name: &Name,
     lanes: u32,
     count: u32,
@@ -181,7 +181,7 @@ const ROWS: [Row<'static>; 3] = [("four.bil", 64), ("m.vrt", 64), ("m.vrt", 1)];
 // Whether the first lane reads each of the four lines, and the lanes behind it read nothing.
 fn reads_once<R: Abort>(rt: &R, alloc: Global, row: &Row<'_>) -> bool {
     let (name, count) = *row;
-    let mut folder = Tally::new(folder_of(rt, alloc, 0, &FILES));
+    let mut folder = CountingFolder::new(folder_of(rt, alloc, 0, &FILES));
     let name = name_of(rt, alloc, name);
     takes_four(alloc, &mut folder, &name, 1, count)
         && takes_four(alloc, &mut folder, &name, 2, count)

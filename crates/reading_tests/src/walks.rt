@@ -3,7 +3,7 @@ use crate::fixtures::{
     tells,
 };
 use catalog::{Catalog, open_all};
-use outside::{Folder, MemFolder, Name, Tally};
+use outside::{CountingFolder, Folder, MemFolder, Name};
 use std::alloc::Global;
 use std::process::Abort;
 use std::test::*;
@@ -220,7 +220,7 @@ fn is_linked(cat: &Catalog) -> bool {
 
 // How many files a walk opens that goes to its end and links the mosaics.
 fn walk_twice<R: Abort>(rt: &R, alloc: Global) -> Option<u64> {
-    let mut folder = Tally::new(with_mosaics(rt, alloc, 0, TWICE));
+    let mut folder = CountingFolder::new(with_mosaics(rt, alloc, 0, TWICE));
     let mut cat = Catalog::new(alloc);
     if goes(rt, alloc, &mut cat, &mut folder, "m0.vrt; 0; 17") && is_linked(&cat) {
         return Some(folder.opens());

@@ -3,7 +3,7 @@
 use crate::fixtures::{File, is_number, none_wrong, put_all};
 use crate::reads::{Job, Picture, Place, add_window, place_in, put_picture, shows_always};
 use geotransform::Sample;
-use outside::{CalmFolder, Folder, Never, Tally};
+use outside::{CalmFolder, CountingFolder, Folder, Never};
 use std::alloc::Global;
 use std::process::Abort;
 use std::test::*;
@@ -275,7 +275,7 @@ const EMPTY: Row<'static> = (Image::One, "one.vrt", (0, 400, 1100, 15));
 fn reads_of<R: Abort>(
     rt: &R,
     alloc: Global,
-    folder: &mut Tally<CalmFolder>,
+    folder: &mut CountingFolder<CalmFolder>,
     row: &Row<'_>,
 ) -> Option<u64> {
     let before = folder.reads();
@@ -287,7 +287,7 @@ fn reads_of<R: Abort>(
 
 // How many reads a window takes beside those of the walk.
 fn reads_beside_the_walk<R: Abort>(rt: &R, alloc: Global) -> Option<u64> {
-    let mut folder = Tally::new(drawn(rt, alloc));
+    let mut folder = CountingFolder::new(drawn(rt, alloc));
     let all = reads_of(rt, alloc, &mut folder, &LINES);
     let walk = reads_of(rt, alloc, &mut folder, &EMPTY);
     match (all, walk) {

@@ -7,7 +7,7 @@ use crate::reads::{
     shows_always,
 };
 use geotransform::Sample;
-use outside::{CalmFolder, Folder, MemFolder, Never, Tally};
+use outside::{CalmFolder, CountingFolder, Folder, MemFolder, Never};
 use std::alloc::Global;
 use std::process::Abort;
 use std::test::*;
@@ -173,7 +173,7 @@ fn every_capacity_gives_the_same(rt: HostRuntime) {
 const OUTERMOST: Line<'static> = Line("o.vrt", &[5, -1, 9]);
 
 // Walks over `o.vrt`, and reads nothing.
-fn walk_alone<R: Abort>(rt: &R, alloc: Global, folder: &mut Tally<CalmFolder>) {
+fn walk_alone<R: Abort>(rt: &R, alloc: Global, folder: &mut CountingFolder<CalmFolder>) {
     let job = Job {
         name: "o.vrt",
         size: (3, 1),
@@ -184,14 +184,14 @@ fn walk_alone<R: Abort>(rt: &R, alloc: Global, folder: &mut Tally<CalmFolder>) {
 }
 
 // Whether so many reads and openings were made twice, and two more of each.
-fn has_two_more(folder: &Tally<CalmFolder>, reads: u64, opens: u64) -> bool {
+fn has_two_more(folder: &CountingFolder<CalmFolder>, reads: u64, opens: u64) -> bool {
     folder.reads() == reads.saturating_mul(2).saturating_add(2)
         && folder.opens() == opens.saturating_mul(2).saturating_add(2)
 }
 
 // Whether a walk and two reads with room for all blocks take two reads and two openings more than the walk.
 fn are_loaded_once<R: Abort>(rt: &R, alloc: Global) -> bool {
-    let mut folder = Tally::new(calm(rt, alloc));
+    let mut folder = CountingFolder::new(calm(rt, alloc));
     walk_alone(rt, alloc, &mut folder);
     let (reads, opens) = (folder.reads(), folder.opens());
     let came = read_twice(rt, alloc, &mut folder, &OUTERMOST, 64);
@@ -438,7 +438,7 @@ fn points_of<R: Abort>(rt: &R, alloc: Global, places: &[(u32, u32)]) -> Vec<Plac
 fn first_unlike<R: Abort>(
     rt: &R,
     alloc: Global,
-    folder: &mut Tally<CalmFolder>,
+    folder: &mut CountingFolder<CalmFolder>,
     job: Job,
     counts: &[u64],
 ) -> Option<usize> {
@@ -462,7 +462,7 @@ fn first_miscounted<R: Abort>(
     counts: &[u64],
 ) -> Option<usize> {
     let points = points_of(rt, alloc, places);
-    let mut folder = Tally::new(folder);
+    let mut folder = CountingFolder::new(folder);
     let job = Job {
         name,
         size,

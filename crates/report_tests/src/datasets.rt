@@ -2,7 +2,7 @@ use catalog::{BandHead, Head, Kind, head_of};
 use geotransform::{GeoTransform, PixelType, Size, Ticks};
 use info_report::{ReportFault, write_info};
 use lists_and_answers::Items;
-use outside::{CalmFolder, Failing, Listed, MemSink, Name, Never, Tally, Text};
+use outside::{CalmFolder, CountingFolder, Failing, Listed, MemSink, Name, Never, Text};
 use outside_fakes::TWO_TILES;
 use std::alloc::{AllocError, Global};
 use std::test::*;
@@ -19,10 +19,10 @@ fn put_all(alloc: Global, folder: &mut CalmFolder, files: &[File]) -> Result<(),
 }
 
 // A folder with these files, which counts its calls.
-fn holding(alloc: Global, files: &[File]) -> Result<Tally<CalmFolder>, Fail> {
+fn holding(alloc: Global, files: &[File]) -> Result<CountingFolder<CalmFolder>, Fail> {
     let mut folder = CalmFolder::new(alloc, Never);
     put_all(alloc, &mut folder, files)?;
-    Ok(Tally::new(folder))
+    Ok(CountingFolder::new(folder))
 }
 
 // Whether this is what a sink gets of the report of a dataset.
@@ -35,7 +35,7 @@ fn is_written(alloc: Global, head: &Head, want: &[u8]) -> bool {
 // Whether the file of this name is a dataset, and this is its report.
 fn is_told(
     alloc: Global,
-    folder: &mut Tally<CalmFolder>,
+    folder: &mut CountingFolder<CalmFolder>,
     name: &Name,
     verify: bool,
     want: &[u8],

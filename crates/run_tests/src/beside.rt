@@ -192,8 +192,16 @@ BANDGAPBYTES   0
 PIXELTYPE      UNSIGNEDINT
 ";
 
-// Each line is written, and of the sixty-four of a strip a worker reads thirty-two or more.
-static LONG_TURN: [Turn; 1] = [(0, Failer::Folder, (97, 256))];
+// Each line is written, and of the sixty-four of a strip a worker reads thirty-two or more. The size is put, and then
+// that all is done; nothing is taken.
+static LONG_TURNS: [Turn; 3] = [
+    (0, Failer::Folder, (97, 256)),
+    (0, Failer::Output(3), (2, 64)),
+    (0, Failer::Input, (0, 1)),
+];
+
+const LONG_TEXT: &str =
+    "Input file size is 32768, 65\n0...10...20...30...40...50...60...70...80...90...100 - done.\n";
 
 // The first work of which a call's failing isn't met.
 fn first_unmet_long<R: Threads + Sync + Abort>(rt: &R, alloc: Global) -> Option<usize> {
@@ -210,15 +218,16 @@ fn first_unmet_long<R: Threads + Sync + Abort>(rt: &R, alloc: Global) -> Option<
         ("out.hdr", b"old header", LONG_MADE),
     ];
     let works: [Work<'_>; 1] = [Work {
-        line: "gdal_translate -q --workers 2 long.bil out.bil",
-        text: "",
+        line: "gdal_translate --workers 2 long.bil out.bil",
+        text: LONG_TEXT,
         told: "",
         outputs: &outputs,
     }];
-    first_unmet(rt, alloc, &files, &works, &LONG_TURN)
+    first_unmet(rt, alloc, &files, &works, &LONG_TURNS)
 }
 
-// Each call of the folder fails in turn while two workers read long lines.
+// Each call of the folder fails in turn while two workers read long lines, and each of the output. What was printed by
+// then is the first part of what a whole run prints.
 #[test]
 fn each_failing_call_of_two_workers(rt: HostRuntime) {
     none_wrong(&rt, first_unmet_long(&rt, rt.alloc()));

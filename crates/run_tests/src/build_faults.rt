@@ -1,11 +1,13 @@
 // Builds of mosaics of which a call of the outside fails; long lists of inputs; and two tiles side by side.
 use crate::builds::DONE;
 use crate::ends::{
-    End, Failed, Failer, Output, Telling, Turn, Untold, Work, each_cuts, ends, first_other,
-    first_told, first_unmet,
+    Asking, End, Failed, Failer, Output, Telling, Turn, Untold, Work, each_cuts, ends, first_other,
+    first_told, first_unasked, first_unmet,
 };
 use crate::stories::first_unrefused;
-use crate::trials::{FileOf, Part, Row, folder_of, joined, none_wrong, put, said_in, says_in};
+use crate::trials::{
+    Fed, FileOf, NOTHING, Part, Row, folder_of, joined, none_wrong, put, said_in, says_in,
+};
 use outside::{Failing, MemFolder, Method};
 use outside_fakes::TWO_TILES;
 use std::alloc::Global;
@@ -322,8 +324,24 @@ static STRICT: [Row<'static>; 1] = [(
     "ERROR 1: two.bil: skipped (bands)\n",
 )];
 
+// The same, whose calls fail in turn: each tile is opened for its length, the raster and its header are opened, and the
+// header is read; nothing is made, and nothing put.
+const STRICTLY: Fed<'static> = (
+    "gdalbuildvrt -strict out.vrt N00E000.hgt N00E001.hgt two.bil",
+    NOTHING,
+);
+
+const SKIPPED_TWO: (u8, &str) = (1, "ERROR 1: two.bil: skipped (bands)\n");
+
+static STRICT_CALLS: [Asking<'static>; 3] = [
+    (STRICTLY, "", Failer::Folder, 5, SKIPPED_TWO),
+    (STRICTLY, "", Failer::Input, 0, SKIPPED_TWO),
+    (STRICTLY, "", Failer::Output(0), 0, SKIPPED_TWO),
+];
+
 // Whether each call of the folder ends a build where it fails, each of the output does, the first one behind the
-// warning and the document, none of the input is made, and nothing is changed where no input may be skipped.
+// warning and the document, none of the input is made, and nothing is changed where no input may be skipped, whichever
+// call fails.
 fn tiles_end<R: Threads + Sync + Abort>(
     rt: &R,
     alloc: Global,
@@ -337,6 +355,7 @@ fn tiles_end<R: Threads + Sync + Abort>(
         && each_cuts(rt, alloc, files, work, output, (0, 64))
         && each_cuts(rt, alloc, files, work, Failer::Input, (0, 1))
         && first_unrefused(rt, alloc, files, &STRICT).is_none()
+        && first_unasked(rt, alloc, files, &STRICT_CALLS).is_none()
 }
 
 static ZEROS: [Part<'static>; 1] = [(&[0], 2_884_802)];

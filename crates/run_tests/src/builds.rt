@@ -302,7 +302,7 @@ fn builds(rt: HostRuntime) {
 }
 
 // Quiet builds of the same document.
-static SAME: [Row<'static>; 14] = [
+static SAME: [Row<'static>; 15] = [
     ("gdalbuildvrt -q out.vrt a.bil b.bil", 0, "", ""),
     ("gdalbuildvrt -q -input_file_list lf.txt out.vrt", 0, "", ""),
     (
@@ -367,6 +367,12 @@ static SAME: [Row<'static>; 14] = [
         "",
         "",
     ),
+    (
+        "gdalbuildvrt -q --workers 16 out.vrt a.bil b.bil",
+        0,
+        "",
+        "",
+    ),
 ];
 
 static MADE: [FileOf<'static>; 1] = [("out.vrt", BOTH)];
@@ -377,7 +383,7 @@ fn quiet_builds(rt: HostRuntime) {
 }
 
 // Words that don't fit: nothing is printed, and no file changes.
-static UNFIT: [Row<'static>; 32] = [
+static UNFIT: [Row<'static>; 33] = [
     ("gdalbuildvrt", 1, "", "ERROR 1: word 1 doesn't fit\n"),
     (
         "gdalbuildvrt out.vrt",
@@ -414,6 +420,12 @@ static UNFIT: [Row<'static>; 32] = [
         1,
         "",
         "ERROR 1: word 1 doesn't fit\n",
+    ),
+    (
+        "gdalbuildvrt -q --workers 17 out.vrt a.bil",
+        1,
+        "",
+        "ERROR 1: word 3 doesn't fit\n",
     ),
     (
         "gdalbuildvrt out.vrt a.bil -input_file_list",

@@ -279,12 +279,12 @@ pub fn first_unmet<R: Threads + Sync + Abort>(
     None
 }
 
-/// A run that publishes nothing: its words and its input, what it prints, whose calls fail in turn, and how many of
-/// them it makes.
-pub type Asking<'a> = (Fed<'a>, &'a str, Failer, u64);
+/// A run that publishes nothing: its words and its input, what it prints, whose calls fail in turn, how many of them it
+/// makes, and the status and what is told where none fails.
+pub type Asking<'a> = (Fed<'a>, &'a str, Failer, u64, (u8, &'a str));
 
-// Whether a run of which this call may fail ends early where it does, or prints all where none fails; no draft is open,
-// and the files are as before.
+// Whether a run of which this call may fail ends early where it does, or prints all and ends as it is to where none
+// fails; no draft is open, and the files are as before.
 fn asks_so<R: Threads + Sync + Abort>(
     rt: &R,
     alloc: Global,
@@ -293,14 +293,14 @@ fn asks_so<R: Threads + Sync + Abort>(
     call: u64,
     is_made: bool,
 ) -> bool {
-    let (fed, text, failer, _) = *asking;
+    let (fed, text, failer, _, (status, told)) = *asking;
     let calls: &[Failing] = &[Failing::Call(call)];
     let (failures, cause) = failures_of(failer, calls);
     let ran = run_over(rt, alloc, files, fed, failures);
     let is_ended = if is_made {
         ran.said.ends_in(text, cause)
     } else {
-        ran.said.is(0, text, "")
+        ran.said.is(status, text, told)
     };
     ran.has_failed() == is_made && is_ended && has_only(rt, alloc, &ran.folder, files, &[])
 }
@@ -328,7 +328,7 @@ fn each_asks_so<R: Threads + Sync + Abort>(
     files: &[FileOf<'_>],
     asking: &Asking<'_>,
 ) -> bool {
-    let (_, _, _, count) = *asking;
+    let (_, _, _, count, _) = *asking;
     let call = first_unmade(rt, alloc, files, asking);
     call == count.saturating_add(1) && asks_so(rt, alloc, files, asking, call, false)
 }

@@ -169,6 +169,54 @@ fn a_long_line(rt: HostRuntime) {
     assert!(rt; is_long_refused(&rt, rt.alloc()));
 }
 
+// How many empty lines an input has, the line behind them, the status, what is printed and what is told.
+type Count<'a> = (usize, &'a [u8], u8, &'a str, &'a str);
+
+// As many lines as there may be, of which the last is empty or a point; and one more.
+static COUNTS: [Count<'static>; 3] = [
+    (16_777_216, b"", 0, "", ""),
+    (16_777_215, b"0 0\n", 0, "7\n", ""),
+    (
+        16_777_216,
+        b"\n",
+        1,
+        "",
+        "ERROR 6: limit of points passed (16777217)\n",
+    ),
+];
+
+// Whether a run over so many lines says what is listed.
+fn is_counted_so<R: Threads + Sync + Abort>(rt: &R, alloc: Global, count: &Count<'_>) -> bool {
+    let (empty, last, status, out, err) = *count;
+    let parts: [Part<'_>; 2] = [(b"\n", empty), (last, 1)];
+    let lines = joined(rt, alloc, &parts);
+    let trial: Trial<'_> = (
+        ("gdallocationinfo -valonly one.bil", (&lines, 65_536)),
+        (&[], &[], &[]),
+        (status, out, err),
+    );
+    ends_so(rt, alloc, files(), &trial)
+}
+
+// The first of these numbers of lines over which a run says something else.
+fn first_wrong_count<R: Threads + Sync + Abort>(
+    rt: &R,
+    alloc: Global,
+    counts: &[Count<'_>],
+) -> Option<usize> {
+    for (at, count) in counts.iter().enumerate() {
+        if !is_counted_so(rt, alloc, count) {
+            return Some(at);
+        }
+    }
+    None
+}
+
+#[test]
+fn as_many_lines_as_may_be(rt: HostRuntime) {
+    none_wrong(&rt, first_wrong_count(&rt, rt.alloc(), &COUNTS));
+}
+
 static FRONT: [Part<'static>; 1] = [(
     b"<VRTDataset rasterXSize='1' rasterYSize='1'><VRTRasterBand>",
     1,

@@ -335,30 +335,40 @@ const EMPTY: Fed<'static> = (TWO, NOTHING);
 
 const EMPTY_REPORTED: Fed<'static> = ("gdallocationinfo two.bil", NOTHING);
 
+// The three points, and a line that is none: it ends the run behind their answers.
+const FOUR: Fed<'static> = (TWO, (b"0 0\n9 9\n2 1\nx\n", 4));
+
+const NO_POINT: (u8, &str) = (1, "ERROR 5: input line 4 is no point\n");
+
 // The data and their header are opened and the header is read; then the data are opened again, and for two of the
 // points a line of each band is read. Three pieces and the end are taken, and each answer is put. Of an empty input the
-// end is taken, and the data aren't opened again.
+// end is taken, and the data aren't opened again. Behind a line that is no point nothing is taken any more.
 // Of a mosaic whose files alone are asked for, the document and each raster with its header are opened, the document
 // and the headers are read, and no pixel.
-static ASKED: [Asking<'static>; 13] = [
+static ASKED: [Asking<'static>; 17] = [
     (
         ("gdallocationinfo -lifonly m.vrt 0 0", NOTHING),
         "a.bil\nb.bil\n",
         Failer::Folder,
         8,
+        (0, ""),
     ),
-    (THREE, ANSWERS, Failer::Folder, 8),
-    (THREE, ANSWERS, Failer::Input, 4),
-    (THREE, ANSWERS, Failer::Output(0), 3),
-    (THREE, ANSWERS, Failer::Output(1), 3),
-    (THREE_REPORTED, REPORTS, Failer::Folder, 8),
-    (THREE_REPORTED, REPORTS, Failer::Input, 4),
-    (THREE_REPORTED, REPORTS, Failer::Output(0), 3),
-    (THREE_REPORTED, REPORTS, Failer::Output(9), 3),
-    (EMPTY, "", Failer::Folder, 3),
-    (EMPTY, "", Failer::Input, 1),
-    (EMPTY, "", Failer::Output(0), 0),
-    (EMPTY_REPORTED, "", Failer::Input, 1),
+    (THREE, ANSWERS, Failer::Folder, 8, (0, "")),
+    (THREE, ANSWERS, Failer::Input, 4, (0, "")),
+    (THREE, ANSWERS, Failer::Output(0), 3, (0, "")),
+    (THREE, ANSWERS, Failer::Output(1), 3, (0, "")),
+    (THREE_REPORTED, REPORTS, Failer::Folder, 8, (0, "")),
+    (THREE_REPORTED, REPORTS, Failer::Input, 4, (0, "")),
+    (THREE_REPORTED, REPORTS, Failer::Output(0), 3, (0, "")),
+    (THREE_REPORTED, REPORTS, Failer::Output(9), 3, (0, "")),
+    (EMPTY, "", Failer::Folder, 3, (0, "")),
+    (EMPTY, "", Failer::Input, 1, (0, "")),
+    (EMPTY, "", Failer::Output(0), 0, (0, "")),
+    (EMPTY_REPORTED, "", Failer::Input, 1, (0, "")),
+    (FOUR, ANSWERS, Failer::Folder, 8, NO_POINT),
+    (FOUR, ANSWERS, Failer::Input, 4, NO_POINT),
+    (FOUR, ANSWERS, Failer::Output(0), 3, NO_POINT),
+    (FOUR, ANSWERS, Failer::Output(1), 3, NO_POINT),
 ];
 
 // Each call fails in turn, until a run ends in which none did; the files stay, and no draft is left open.

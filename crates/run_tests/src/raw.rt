@@ -195,12 +195,24 @@ fn a_failing_output(rt: HostRuntime) {
 // is read. The values are put by one call, and no input is taken. A report opens the data and their header, reads the
 // header alone, and is put by one call.
 static ASKED: [Asking<'static>; 6] = [
-    (("gdalinfo n.bil", NOTHING), REPORT, Failer::Folder, 3),
-    (("gdalinfo n.bil", NOTHING), REPORT, Failer::Output(0), 1),
-    ((LINE, NOTHING), "9\n12\n", Failer::Folder, 6),
-    ((LINE, NOTHING), "9\n12\n", Failer::Output(0), 1),
-    ((LINE, NOTHING), "9\n12\n", Failer::Output(2), 1),
-    ((LINE, NOTHING), "9\n12\n", Failer::Input, 0),
+    (
+        ("gdalinfo n.bil", NOTHING),
+        REPORT,
+        Failer::Folder,
+        3,
+        (0, ""),
+    ),
+    (
+        ("gdalinfo n.bil", NOTHING),
+        REPORT,
+        Failer::Output(0),
+        1,
+        (0, ""),
+    ),
+    ((LINE, NOTHING), "9\n12\n", Failer::Folder, 6, (0, "")),
+    ((LINE, NOTHING), "9\n12\n", Failer::Output(0), 1, (0, "")),
+    ((LINE, NOTHING), "9\n12\n", Failer::Output(2), 1, (0, "")),
+    ((LINE, NOTHING), "9\n12\n", Failer::Input, 0, (0, "")),
 ];
 
 // Each call fails in turn, until a run ends in which none did; the files stay, and no draft is left open.

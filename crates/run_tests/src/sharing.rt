@@ -1,6 +1,6 @@
 // Points and translations that are read through lines, and how many reads they take.
 use crate::trials::{FileOf, Part, folder_of, joined, none_wrong, said_of};
-use outside::{MemFolder, Tally};
+use outside::{CountingFolder, MemFolder};
 use std::alloc::Global;
 use std::process::Abort;
 use std::test::*;
@@ -69,7 +69,7 @@ fn mosaic<R: Abort>(rt: &R, alloc: Global) -> Vec<u8> {
 }
 
 // A folder with the column as raw data and as a grid, and the mosaic of it, which counts calls.
-fn tally<R: Abort>(rt: &R, alloc: Global) -> Tally<MemFolder> {
+fn counting_folder<R: Abort>(rt: &R, alloc: Global) -> CountingFolder<MemFolder> {
     let grid = grid(rt, alloc);
     let mosaic = mosaic(rt, alloc);
     let files: [FileOf<'_>; 4] = [
@@ -78,7 +78,7 @@ fn tally<R: Abort>(rt: &R, alloc: Global) -> Tally<MemFolder> {
         ("column.asc", &grid),
         ("column.vrt", &mosaic),
     ];
-    Tally::new(folder_of(rt, alloc, &files, &[]))
+    CountingFolder::new(folder_of(rt, alloc, &files, &[]))
 }
 
 // The words of a run, and its least and its most reads.
@@ -119,7 +119,7 @@ fn reads_so<R: Threads + Sync + Abort>(
     row: &Reads<'_>,
 ) -> bool {
     let (line, least, most) = *row;
-    let mut folder = tally(rt, alloc);
+    let mut folder = counting_folder(rt, alloc);
     let said = said_of(rt, alloc, &mut folder, (line, (points, 65_536)));
     let reads = folder.reads();
     said.prints(values) && least <= reads && reads <= most
@@ -157,18 +157,15 @@ fn points_are_looked_for_in_lines(rt: HostRuntime) {
     none_wrong(&rt, first_unread_again(&rt, rt.alloc(), &READS));
 }
 
-// A pool of 64 blocks lacks each of the 65 lines in each of the 32 squares: 2,080 loads for a band, by one worker or by
-// two of which neither looks into lines. Where both look, and are at one line of the column at the same time, one of
+// One worker copies 32 lines at a time, which show 16 or 17 lines of the column, and the pool holds these: 130 loads. Two
+// copy 256, and a pool of 64 blocks lacks each of the 65 lines in each of the 32 squares: 2,080 loads for a band, if
+// neither of them looks into lines. Where both look, and are at one line of the column at the same time, one of
 // them may miss it, but not both, since only what the other one does there keeps a look from its line: so at most 1,040
 // looks for a band fail, in whatever order the two come. Besides, each may load each line once at first, and for a band
 // the first and the last one, which share a line, 32 times. Of three bands two are read while those before them are
 // written; of an output of another size, lines are made of those that are read.
 static TRANSLATIONS: [Reads<'static>; 4] = [
-    (
-        "gdal_translate -q --blocks 64 column.vrt out.bil",
-        2080,
-        2100,
-    ),
+    ("gdal_translate -q --blocks 64 column.vrt out.bil", 130, 150),
     (
         "gdal_translate -q --workers 2 --blocks 64 column.vrt out.bil",
         65,

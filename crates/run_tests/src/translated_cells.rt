@@ -4,7 +4,7 @@ use crate::stories::{first_unrefused, has, says_all};
 use crate::trials::{
     FileOf, Part, Row, add_parts, folder_of, is_number, joined, none_wrong, says_in,
 };
-use outside::{MemFolder, Tally};
+use outside::{CountingFolder, MemFolder};
 use std::alloc::Global;
 use std::process::Abort;
 use std::test::*;
@@ -214,17 +214,17 @@ fn has_back<R: Abort>(rt: &R, alloc: Global, folder: &MemFolder) -> bool {
 }
 
 // A folder in which the cell stands, and which counts calls.
-fn tally_with_cell<R: Abort>(rt: &R, alloc: Global) -> Tally<MemFolder> {
+fn folder_with_cell<R: Abort>(rt: &R, alloc: Global) -> CountingFolder<MemFolder> {
     let cell = cell(rt, alloc);
-    Tally::new(folder_of(rt, alloc, &[("out.dt0", &cell)], &[]))
+    CountingFolder::new(folder_of(rt, alloc, &[("out.dt0", &cell)], &[]))
 }
 
 // Whether a cell becomes raw data with few reads.
 fn reads_few<R: Threads + Sync + Abort>(rt: &R, alloc: Global) -> bool {
-    let mut tally = tally_with_cell(rt, alloc);
-    let said = says_in(rt, alloc, &mut tally, &BACK);
-    let reads = tally.reads();
-    let folder = tally.into_inner();
+    let mut folder = folder_with_cell(rt, alloc);
+    let said = says_in(rt, alloc, &mut folder, &BACK);
+    let reads = folder.reads();
+    let folder = folder.into_inner();
     said && reads <= 1000 && has_back(rt, alloc, &folder)
 }
 
@@ -237,8 +237,8 @@ const FORTH: Row<'static> = ("gdal_translate --blocks 200 t.vrt out.dt0", 0, TEX
 
 // Whether a cell is made with few writes.
 fn writes_few<R: Threads + Sync + Abort>(rt: &R, alloc: Global) -> bool {
-    let mut tally = Tally::new(folder_of(rt, alloc, files(), &[]));
-    says_in(rt, alloc, &mut tally, &FORTH) && tally.writes() <= 1000
+    let mut folder = CountingFolder::new(folder_of(rt, alloc, files(), &[]));
+    says_in(rt, alloc, &mut folder, &FORTH) && folder.writes() <= 1000
 }
 
 #[test]

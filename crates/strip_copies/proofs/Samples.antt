@@ -10,7 +10,7 @@ use Rattle.geotransform.specs.Pixels.{within}
 use Rattle.outside.specs.Outside.{Files}
 use Rattle.catalog.specs.Pixels.{pixel_of_name}
 use Rattle.translate_plan.specs.declared.band.OutBand.{OutBand}
-use Rattle.translate_plan.specs.Plan.{Planned, held, is_inside, pixel_in, out_pixel, shown_column, shown_line}
+use Rattle.translate_plan.specs.Plan.{Planned, held, is_in_raster, pixel_in, out_pixel, shown_column, shown_line}
 use Rattle.strip_copies.specs.declared.columns.Columns.{Columns}
 use Rattle.strip_copies.specs.declared.holding.Holding.{Holding}
 use Rattle.strip_copies.specs.Rows.{held_to, column_at, made_found, made_of, nearest, AreColumns, IsHolding, IsSample}
@@ -20,16 +20,16 @@ pub held_within : (side : ℕ) (a : ℤ) → held_to side a ≤ side
 held_within side (pos n) = omega arith
 held_within side (negsuc n) = omega arith
 
-inside_by : (source : Size) (a b : ℤ) (x y : ℕ) → within source.w a ≡ Some x → within source.h b ≡ Some y → is_inside source a b ≡ true
+inside_by : (source : Size) (a b : ℤ) (x y : ℕ) → within source.w a ≡ Some x → within source.h b ≡ Some y → is_in_raster source a b ≡ true
 inside_by source (pos n) (pos m) x y e f = grind (arith, nat_tests, ints)
 inside_by source (pos n) (negsuc m) x y e f = absurd (cc)
 inside_by source (negsuc n) b x y e f = absurd (cc)
 
-outside_column : (source : Size) (a b : ℤ) → within source.w a ≡ None → is_inside source a b ≡ false
+outside_column : (source : Size) (a b : ℤ) → within source.w a ≡ None → is_in_raster source a b ≡ false
 outside_column source (pos n) b e = grind (arith, nat_tests, ints)
 outside_column source (negsuc n) b e = refl
 
-outside_line : (source : Size) (a b : ℤ) → within source.h b ≡ None → is_inside source a b ≡ false
+outside_line : (source : Size) (a b : ℤ) → within source.h b ≡ None → is_in_raster source a b ≡ false
 outside_line source a (pos n) e = grind (arith, nat_tests, ints)
 outside_line source a (negsuc n) e = grind (arith, nat_tests, ints)
 
@@ -46,7 +46,7 @@ module _ (p : Planned) (source : Size) (pixels : ℕ → ℕ → ℕ → ℤ) (k
       ∙ ap (λ n. held p.driver b.kind (pixels b.source n (unsigned_abs (shown_line p j)))) (magnitude source.w (shown_column p i) x e)
       ∙ ap (λ n. held p.driver b.kind (pixels b.source x n)) (magnitude source.h (shown_line p j) y f)
 
-  outside : is_inside source (shown_column p i) (shown_line p j) ≡ false → out_pixel p source pixels k i j ≡ unwrap_or b.nodata (pos 0)
+  outside : is_in_raster source (shown_column p i) (shown_line p j) ≡ false → out_pixel p source pixels k i j ≡ unwrap_or b.nodata (pos 0)
   outside e =
       ap (λ m. pixel_in p source pixels m i j) at
       ∙ ap (λ t. if t then held p.driver b.kind (pixels b.source (unsigned_abs (shown_column p i)) (unsigned_abs (shown_line p j))) else unwrap_or b.nodata (pos 0)) e

@@ -43,14 +43,14 @@ is_grid kinds.Ascii = true
 is_grid kinds.Vrt = false
 
 -- whether a dataset of this kind is cut into blocks of a shape
-abbrev pub is_cut_in : BlockShape → Kind → Bool
-is_cut_in Columns kind = is_cell kind
-is_cut_in Squares kind = is_mosaic kind
-is_cut_in Digits kind = is_grid kind
+abbrev pub is_cut_into : BlockShape → Kind → Bool
+is_cut_into Columns kind = is_cell kind
+is_cut_into Squares kind = is_mosaic kind
+is_cut_into Digits kind = is_grid kind
 
 -- some dataset is cut into such blocks
 abbrev pub has_blocks : BlockShape → List Dataset → Bool
-has_blocks shape cat = list_any (λ (d : Dataset). is_cut_in shape d.head.kind) cat
+has_blocks shape cat = list_any (λ (d : Dataset). is_cut_into shape d.head.kind) cat
 
 -- strips are as tall as they can be: the source is made of cells, or the output is one
 abbrev pub is_tall : List Dataset → Driver → Bool
@@ -94,13 +94,13 @@ is_shared workers cat width =
 abbrev pub samples_near : ℕ
 samples_near = 65536
 
--- the lines of so many columns that stay in a processor's cache
-abbrev pub lines_near : ℕ → ℕ
-lines_near width = min (max (samples_near / width) 1) file_lines
+-- the lines of so many columns that stay in a processor's cache, at most so many
+abbrev pub lines_near : ℕ → ℕ → ℕ
+lines_near most width = min (max (samples_near / width) 1) most
 
--- the lines of a strip that one worker reads alone: of a file of bytes those that stay in the cache
+-- the lines of a strip that one worker reads alone: but for those of digits, those that stay in the cache
 abbrev pub lines_alone : List Dataset → ℕ → ℕ
-lines_alone cat width = if is_made cat then lines_each cat else lines_near width
+lines_alone cat width = if has_blocks Digits cat then lines_each cat else lines_near (lines_each cat) width
 
 -- the most lines of a strip: as many as it can have where strips are tall, else so many for each of the workers that
 -- share it, or those that one worker reads alone

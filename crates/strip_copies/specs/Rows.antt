@@ -9,6 +9,7 @@ use Rattle.geotransform.specs.declared.types.Size.{Size}
 use Rattle.geotransform.specs.Pixels.{within}
 use Rattle.outside.specs.Outside.{Files}
 use Rattle.dted_records.specs.Written.{IsElevation}
+use Rattle.catalog.specs.Drivers.{null_elevation}
 use Rattle.catalog.specs.Pixels.{pixel_of_name}
 use Rattle.catalog.specs.Places.{row_by_row}
 use Rattle.translate_plan.specs.declared.band.OutBand.{OutBand}
@@ -39,7 +40,7 @@ nearest least most v = if int_lt v least then least else (if int_lt most v then 
 -- the least sample of a driver's files: that of the type, in a cell the least elevation
 abbrev pub least_of : Driver → PixelType → ℤ
 least_of EHdr kind = lowest kind
-least_of (Dted level) kind = negsuc 32766
+least_of (Dted level) kind = null_elevation
 least_of SrtmHgt kind = lowest kind
 least_of AaiGrid kind = lowest kind
 least_of Vrt kind = lowest kind

@@ -2,7 +2,8 @@
 ghost use Rattle.std.specs.Prelude.{◌≡◌, ◌<◌, ◌≤◌, ◌*◌, ◌/◌, Some, length, slice_get};
 ghost use Rattle.catalog.specs.Drivers.{Dataset};
 ghost use Rattle.strip_copies.specs.declared.height.BlockShape.TheVariants.{Squares};
-ghost use Rattle.strip_copies.specs.Heights.{fewest_read, has_blocks, is_cell, is_cut_in, is_grid, is_made, is_mosaic};
+ghost use Rattle.strip_copies.specs.Heights.{fewest_read, has_blocks, is_cell, is_cut_into, is_grid, is_made};
+ghost use Rattle.strip_copies.specs.Heights.{is_mosaic};
 ghost use Rattle.strip_copies.specs.Heights.{is_shared, is_tall, is_woven, lines_alone, lines_copied, lines_each};
 ghost use Rattle.strip_copies.specs.Heights.{lines_held, lines_near, most_lines, strip_height, most_samples};
 ghost use Rattle.catalog.specs.Dataset.{square_side};
@@ -39,7 +40,7 @@ const SAMPLES_NEAR: u32 = 65_536;
 const FILE_LINES: u32 = 32;
 
 /// The lines of a strip of so many columns, at most so many. It has 4,194,304 samples at most, or one line.
-pub fn height_of(most: u32, width: u32) -> u32
+pub fn strip_lines(most: u32, width: u32) -> u32
     requires any { 1 ≤ most }
     requires some { 0 < width }
     requires most { width ≤ most_side }
@@ -84,7 +85,7 @@ fn is_grid(kind: Kind) -> bool
 // Whether a dataset of the catalog is cut into such blocks.
 fn is_cut_at(cat: &Catalog, id: u32, shape: BlockShape) -> bool
     requires known { id < length cat.now }
-    ensures cut { (d : Dataset) → slice_get cat.now id ≡ Some d → result ≡ is_cut_in shape d.head.kind }
+    ensures cut { (d : Dataset) → slice_get cat.now id ≡ Some d → result ≡ is_cut_into shape d.head.kind }
 {
     let head = cat.head(id);
     match shape {
@@ -171,16 +172,17 @@ fn is_shared(translation: &Translation, workers: WorkerCount) -> bool
 }
 
 // The lines of so many columns whose samples stay in a processor's cache: 65,536 samples, which are 1 MiB; at least one
-// line, and at most 32.
-fn lines_near(width: u32) -> u32
+// line, and at most so many.
+fn lines_near(most: u32, width: u32) -> u32
     requires some { 0 < width }
-    ensures lines { result ≡ lines_near width }
+    requires lines { 1 ≤ most }
+    ensures lines { result ≡ lines_near most width }
     ensures any { 1 ≤ result }
 {
-    (SAMPLES_NEAR / width).max(1).min(FILE_LINES)
+    (SAMPLES_NEAR / width).max(1).min(most)
 }
 
-// The lines of a strip that one worker reads alone: of a file of bytes those that stay in the cache.
+// The lines of a strip that one worker reads alone: but for those of digits, those that stay in the cache.
 fn lines_alone(translation: &Translation) -> u32
     ensures lines { result ≡ lines_alone translation.now.cat translation.now.plan.size.w }
     ensures some { 1 ≤ result }
@@ -188,10 +190,11 @@ fn lines_alone(translation: &Translation) -> u32
     let plan = &translation.plan;
     plan.rules();
     let cat = &translation.cat;
-    if is_made(cat) {
-        lines_each(cat)
+    let each = lines_each(cat);
+    if has_blocks(cat, BlockShape::Digits) {
+        each
     } else {
-        lines_near(plan.size.w)
+        lines_near(each, plan.size.w)
     }
 }
 
@@ -276,6 +279,6 @@ pub fn strip_height(translation: &Translation, workers: WorkerCount, blocks: u32
 {
     let plan = &translation.plan;
     plan.rules();
-    let lines = height_of(most_lines(translation, workers), plan.size.w).min(plan.size.h);
+    let lines = strip_lines(most_lines(translation, workers), plan.size.w).min(plan.size.h);
     lines.min(lines_held(translation, blocks))
 }

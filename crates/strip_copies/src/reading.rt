@@ -25,7 +25,7 @@ ghost use Rattle.band_blocks.specs.Blocks.{most_blocks};
 
 use crate::columns::Columns;
 use crate::direct::{hold_all, is_all_direct, is_direct};
-use crate::height::{height_of, lines_apart, most_lines};
+use crate::height::{lines_apart, most_lines, strip_lines};
 use crate::holding::Holding;
 use crate::making::{Making, area, make_lines};
 use crate::shares::fewest_for;
@@ -61,7 +61,7 @@ fn room_height(most: u32, columns: u32, lines: u32) -> u32
     if columns == 0 {
         return 1;
     }
-    height_of(most, columns).min(lines)
+    strip_lines(most, columns).min(lines)
 }
 
 // Whether a line that isn't shown lies between any two that are, in a source whose lines are read one by one then.
@@ -237,7 +237,7 @@ fn next_run<S: Scene>(shown: &Shown<S>, rows: u32, lines: Lines) -> Next
 }
 
 // The type of a band of the dataset, counted from 0.
-fn kind_of(translation: &Translation, band: u32) -> PixelType
+fn band_type_of(translation: &Translation, band: u32) -> PixelType
     requires translation { IsTranslation translation.now.cat translation.now.id translation.now.plan }
     requires known { (d : Dataset) → slice_get translation.now.cat translation.now.id ≡ Some d →
         band < band_count d.head }
@@ -294,7 +294,7 @@ fn read_direct<R: Threads + Sync, F: Folder, L: Ledger, S: Scene>(
     let fewest = fewest_for(translation);
     team.read_window_with(rt, &supply, folder, window, fewest, out)?;
     let making = making_of(translation, columns, run.band);
-    let kind = kind_of(translation, window.band);
+    let kind = band_type_of(translation, window.band);
     hold_all(making.holding, kind, out);
     Ok(())
 }

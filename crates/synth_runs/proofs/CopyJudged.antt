@@ -5,7 +5,7 @@ use Rattle.std.proofs.lemmas.Bool.Decides.{nat_tests}
 use Rattle.std.proofs.lemmas.Int.{ints}
 use Rattle.std.proofs.lemmas.List.Elements.{All-cons, All-nil}
 use Rattle.lists_and_answers.specs.Answers.{◌>>=◌}
-use Rattle.outside.specs.Names.{extension_of, ending_of, last_part, kind_of, header_of}
+use Rattle.outside.specs.Names.{extension_of, ending_of, last_part, extension_of_ending, header_of}
 use Rattle.outside.specs.Outside.{Files}
 use Rattle.geotransform.specs.Geo.{Transform, IsRaster}
 use Rattle.geotransform.specs.declared.types.Size.{Size}
@@ -129,7 +129,7 @@ copy_plan_is n side = record {
 
 -- none of the names that are published is read
 copy_apart : (n : ℕ) → unless_read (outer_datasets n) (names_written output_options) ≡ Ok tt
-unfolding header_of extension_of ending_of last_part kind_of
+unfolding header_of extension_of ending_of last_part extension_of_ending
 copy_apart n = refl
 
 -- what is judged

@@ -1,7 +1,7 @@
 -- The copy of the outer mosaic is read once it is published.
 use Rattle.std.proofs.Common.{◌≡◌, ◌∙◌, ap, sym, refl, ℕ, Bool, false, true, List, [], ◌∷◌, ◌++◌, Result, Ok, Err}
 use Rattle.lists_and_answers.specs.Answers.{◌>>=◌}
-use Rattle.outside.specs.Names.{extension_of, ending_of, last_part, kind_of, header_of}
+use Rattle.outside.specs.Names.{extension_of, ending_of, last_part, extension_of_ending, header_of}
 use Rattle.outside.specs.Outside.{Files}
 use Rattle.vrt_profile.specs.Values.{SourceValue}
 use Rattle.catalog.specs.Dataset.{DatasetHead}
@@ -80,11 +80,11 @@ raw_walked m verify name d kind read =
 
 -- the name of the copy is one of raw data
 copy_kind : kind_in output_name ≡ Ok kinds.Raw
-unfolding extension_of ending_of last_part kind_of
+unfolding extension_of ending_of last_part extension_of_ending
 copy_kind = refl
 
 copy_named : (n : ℕ) → IsNamedFor (copy_plan n) output_name
-unfolding extension_of ending_of last_part kind_of
+unfolding extension_of ending_of last_part extension_of_ending
 copy_named n = refl
 
 copy_readable : (n : ℕ) → IsReadable (copy_plan n) output_name

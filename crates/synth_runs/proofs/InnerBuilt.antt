@@ -3,7 +3,7 @@ use Rattle.std.proofs.Common.{◌≡◌, ◌∙◌, ap, sym, refl, ℕ, ◌<◌,
 use Rattle.std.specs.Prelude.{nat_lt}
 use Rattle.std.proofs.lemmas.Bool.Decides.{nat_tests}
 use Rattle.lists_and_answers.specs.Answers.{◌>>=◌}
-use Rattle.outside.specs.Names.{header_of, extension_of, ending_of, last_part, kind_of}
+use Rattle.outside.specs.Names.{header_of, extension_of, ending_of, last_part, extension_of_ending}
 use Rattle.outside.specs.Outside.{Files}
 use Rattle.esri_hdr.specs.Head.{Head}
 use Rattle.vrt_profile.specs.Values.{DocumentValue}
@@ -82,7 +82,7 @@ all_heads heads lengths = refl
 
 -- the name of their mosaic is none of their files
 all_apart : (heads : ℕ → Head) (lengths : ℕ → ℕ) → unless_own (all_raw heads lengths) inner_name ≡ Ok tt
-unfolding extension_of ending_of last_part kind_of header_of
+unfolding extension_of ending_of last_part extension_of_ending header_of
 all_apart heads lengths = refl
 
 names_are : (m : Files) → names_in m tile_names None ≡ Ok tile_names

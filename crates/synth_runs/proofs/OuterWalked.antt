@@ -4,7 +4,7 @@ use Rattle.std.specs.Prelude.{◌||◌, ok_or, nat_lt}
 use Rattle.std.specs.FinMap.{get}
 use Rattle.lists_and_answers.specs.Answers.{◌>>=◌}
 use Rattle.lists_and_answers.specs.Lists.{is_among}
-use Rattle.outside.specs.Names.{extension_of, ending_of, last_part, kind_of, folder_part}
+use Rattle.outside.specs.Names.{extension_of, ending_of, last_part, extension_of_ending, folder_part}
 use Rattle.outside.specs.Outside.{Files}
 use Rattle.outside.specs.Paths.{normal}
 use Rattle.vrt_profile.specs.Values.{Rectangle, SourceValue, DocumentValue}
@@ -31,15 +31,15 @@ use Rattle.synth_runs.proofs.Standing.{MosaicsStand, tile_dataset, tile_source, 
 
 -- the kinds of the names
 inner_kind : kind_in inner_name ≡ Ok Vrt
-unfolding extension_of ending_of last_part kind_of
+unfolding extension_of ending_of last_part extension_of_ending
 inner_kind = refl
 
 outer_kind : kind_in outer_name ≡ Ok Vrt
-unfolding extension_of ending_of last_part kind_of
+unfolding extension_of ending_of last_part extension_of_ending
 outer_kind = refl
 
 pub tile_kind : (t : ℕ) → t < 4 → kind_in (tile_name t) ≡ Ok Raw
-unfolding extension_of ending_of last_part kind_of
+unfolding extension_of ending_of last_part extension_of_ending
 tile_kind zero less = refl
 tile_kind (suc zero) less = refl
 tile_kind (suc (suc zero)) less = refl

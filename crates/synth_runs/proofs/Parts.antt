@@ -2,7 +2,7 @@
 use Rattle.std.proofs.Common.{◌≡◌, ◌⊎◌, sym, subst, refl, inl, inr, ℕ, false, List, [], ◌∷◌, Result, Ok, Err, Option, Some, None}
 use Rattle.std.specs.Prelude.{OnOk}
 use Rattle.geotransform.specs.declared.types.Size.{Size}
-use Rattle.outside.specs.Names.{extension_of, ending_of, last_part, kind_of}
+use Rattle.outside.specs.Names.{extension_of, ending_of, last_part, extension_of_ending}
 use Rattle.outside.specs.Outside.{Files}
 use Rattle.outside.specs.Streams.{Gets, GetsPart}
 use Rattle.outside.proofs.Sinks.{gets-none}
@@ -63,5 +63,5 @@ tally_found m d r names before after is goes = subst (λ (e : Result Dataset Fau
 
 -- the output's name is one of its driver
 pub output_named : IsNamed output_options
-unfolding extension_of ending_of last_part kind_of
+unfolding extension_of ending_of last_part extension_of_ending
 output_named = refl

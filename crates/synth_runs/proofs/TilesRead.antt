@@ -8,7 +8,7 @@ use Rattle.std.proofs.lemmas.List.{length-append}
 use Rattle.lists_and_answers.specs.Answers.{◌>>=◌}
 use Rattle.geotransform.specs.Geo.{IsRaster}
 use Rattle.geotransform.specs.declared.types.PixelType.TheVariants.{Int16}
-use Rattle.outside.specs.Names.{header_of, extension_of, ending_of, last_part, kind_of}
+use Rattle.outside.specs.Names.{header_of, extension_of, ending_of, last_part, extension_of_ending}
 use Rattle.outside.specs.Outside.{Files}
 use Rattle.esri_hdr.specs.Head.{Head, IsHead, esri_head, raw_geo_of}
 use Rattle.esri_hdr.specs.Text.{hdr_text}
@@ -88,7 +88,7 @@ raw_dataset m verify name found kind is =
 
 -- the names of the tiles tell raw data
 pub tile_kind : (t : ℕ) → t < 4 → kind_in (tile_name t) ≡ Ok kinds.Raw
-unfolding extension_of kind_of ending_of last_part
+unfolding extension_of extension_of_ending ending_of last_part
 tile_kind zero less = refl
 tile_kind (suc zero) less = refl
 tile_kind (suc (suc zero)) less = refl

@@ -10,7 +10,7 @@ use Rattle.outside.specs.Streams.{Gets}
 use Rattle.outside.proofs.Sinks.{gets-none}
 use Rattle.error_lines.specs.declared.faults.Fault.{Fault}
 use Rattle.error_lines.specs.Faults.{IsOutside}
-use Rattle.error_lines.specs.Steps.{Step, Publishes, publishes, published, printed, begun, cut, applied, all_done, Goes, AreDone}
+use Rattle.error_lines.specs.Steps.{Step, Publishes, publishes, published, printed, begun, cut_short, applied, all_done, Goes, AreDone}
 use Rattle.published_files.specs.Documents.{IsOfFolder}
 use Rattle.synthetic_files.specs.Publishing.{ArePublished}
 
@@ -82,7 +82,7 @@ nothing_begun : (files : Named) → begun 0 (publishes files) ≡ []
 nothing_begun [] = refl
 nothing_begun (file ∷ files) = refl
 
-cut_at : (first rest : Named) → publishes first ≡ cut (length first) 0 (publishes (first ++ rest))
+cut_at : (first rest : Named) → publishes first ≡ cut_short (length first) 0 (publishes (first ++ rest))
 cut_at [] rest = sym (nothing_begun rest)
 cut_at (file ∷ first) rest = ap (λ (s : List Step). Publishes file.0 file.1 ∷ s) (cut_at first rest)
 
@@ -95,7 +95,7 @@ done files m names old is = record {
 pub published_goes : (files : Named) (m : Files) (r : Result (Unit {0}) Fault) (names : Option Files) (old : Option (List ℕ)) → IfErr r IsOfFolder → ArePublished files m r names → Goes (all_done (publishes files)) m r names old old
 published_goes files m (Ok x) names old faults is = (refl, done files m names old is)
 published_goes files m (Err f) names old faults found =
-    inr (outside_of f faults, (publishes found.0, (length found.0, 0, cut_at found.0 found.1.0 ∙ ap (λ (l : Named). cut (length found.0) 0 (publishes l)) found.1.1), done found.0 m names old found.1.2))
+    inr (outside_of f faults, (publishes found.0, (length found.0, 0, cut_at found.0 found.1.0 ∙ ap (λ (l : Named). cut_short (length found.0) 0 (publishes l)) found.1.1), done found.0 m names old found.1.2))
 
 -- a run that publishes none of its files
 pub none_goes : (files : Named) (m : Files) (r : Result (Unit {0}) Fault) (f : Fault) (names : Option Files) (old : Option (List ℕ)) → r ≡ Err f → IsOfFolder f → names ≡ Some m → Goes (all_done (publishes files)) m r names old old

@@ -3,7 +3,7 @@ use Rattle.std.proofs.Common.{◌≡◌, ◌∙◌, ap, sym, refl, ℕ, zero, su
 use Rattle.std.specs.Prelude.{IsTrue, IfOk}
 use Rattle.std.specs.List.{range_with_len}
 use Rattle.std.proofs.lemmas.List.FromFn.{map-range_with_len_more}
-use Rattle.outside.specs.Names.{extension_of, ending_of, last_part, kind_of, is_raw}
+use Rattle.outside.specs.Names.{extension_of, ending_of, last_part, extension_of_ending, is_raw}
 use Rattle.outside.specs.Paths.{normal}
 use Rattle.synthetic_rasters.specs.Names.{tile_name, inner_name, outer_name, output_name}
 
@@ -28,7 +28,7 @@ tile_normal (suc (suc (suc zero))) less = refl
 tile_normal (suc (suc (suc (suc n)))) less = absurd (omega (arith, less))
 
 pub tile_raw : (t : ℕ) → t < 4 → IsTrue (is_raw (extension_of (tile_name t)))
-unfolding extension_of ending_of last_part kind_of
+unfolding extension_of ending_of last_part extension_of_ending
 tile_raw zero less = refl
 tile_raw (suc zero) less = refl
 tile_raw (suc (suc zero)) less = refl

@@ -6,7 +6,7 @@ use crate::fixtures::{
 };
 use crate::outputs::{BANDS_BIP, ordered_as, story_of};
 use crate::pixels::samples_in;
-use outside::{Failing, Method, Tally};
+use outside::{CountingFolder, Failing, Method};
 use std::alloc::{AllocError, Global};
 use std::test::*;
 use write_back::TargetFault;
@@ -144,7 +144,7 @@ fn writes(
     story: Story<'_>,
     capacity: u16,
 ) -> Result<Option<u64>, Fail> {
-    let mut folder = Tally::new(folder_of(alloc, &[], &[])?);
+    let mut folder = CountingFolder::new(folder_of(alloc, &[], &[])?);
     let ended = written(alloc, &mut folder, order, capacity, story);
     Ok(if ended == Ended::Closed {
         Some(folder.writes())
@@ -211,7 +211,7 @@ fn writes_before(
     capacity: u16,
     story: Story<'_>,
 ) -> Result<Option<u64>, Fail> {
-    let mut folder = Tally::new(folder_of(alloc, &[], &[])?);
+    let mut folder = CountingFolder::new(folder_of(alloc, &[], &[])?);
     let put = tried(alloc, &mut folder, order, capacity, story);
     Ok(if put { Some(folder.writes()) } else { None })
 }

@@ -1,6 +1,7 @@
 // Plans of outputs, windows that are put into their targets, and how it ended.
 ghost use Rattle.std.specs.Prelude.{◌≡◌, ◌≢◌, ◌<◌, ◌≤◌, ◌*◌, ◌^◌, All, IfOk, IfSome, length, true};
-ghost use Rattle.translate_plan.specs.Options.{IsDriver, IsView, IsWord};
+ghost use Rattle.translate_plan.specs.Options.{IsDriver, IsView};
+ghost use Rattle.catalog.specs.Nodata.{IsNodataWord};
 ghost use Rattle.translate_plan.specs.declared.options.Driver.TheVariants.{Vrt};
 ghost use Rattle.write_back.specs.Files.{IsTarget};
 ghost use Rattle.write_back.specs.Plans.{IsNamedFor};
@@ -106,7 +107,7 @@ fn view_of(seen: Option<(u8, u8, u8, u8)>) -> View
 }
 
 fn nodata_of(nodata: Option<i32>) -> NodataWord
-    ensures { IsWord result }
+    ensures { IsNodataWord result }
 {
     match nodata {
         None => NodataWord::Absent,

@@ -27,7 +27,7 @@ use Rattle.catalog.proofs.PixelLaws.{number_is_name, mosaic_is_of_members}
 use Rattle.translate_plan.specs.declared.options.Driver.{Driver}
 use Rattle.translate_plan.specs.declared.options.Driver.TheVariants.{Vrt}
 use Rattle.translate_plan.specs.declared.band.OutBand.{OutBand}
-use Rattle.translate_plan.specs.Plan.{Planned, shown_column, shown_line, is_inside, held, out_pixel, pixel_in, band_pixel}
+use Rattle.translate_plan.specs.Plan.{Planned, shown_column, shown_line, is_in_raster, held, out_pixel, pixel_in, band_pixel}
 use Rattle.translate_plan.specs.Documents.{shown_source, shown_band, document_by, IsPublished}
 use Rattle.translate_plan.proofs.Published.{Reads, one_told, published_is}
 use Rattle.translate_plan.proofs.Covers.{axis_is, is_in_side}
@@ -44,7 +44,7 @@ both_axes false b c r = refl
 
 -- the source pixel of an output's pixel
 cover_is : (p : Planned) (base name : List ℕ) (b : OutBand) (size : Size) (i j : ℕ) → i < p.size.w → j < p.size.h
-    → cover_of (shown_source p base name b) p.size size i j ≡ cond (is_inside size (shown_column p i) (shown_line p j)) (Some (unsigned_abs (shown_column p i), unsigned_abs (shown_line p j))) None
+    → cover_of (shown_source p base name b) p.size size i j ≡ cond (is_in_raster size (shown_column p i) (shown_line p j)) (Some (unsigned_abs (shown_column p i), unsigned_abs (shown_line p j))) None
 unfolding cover_of
 cover_is p base name b size i j across down =
     ap (λ (o : Option ℕ). o >>= λ column. (axis_at (lines_of (shown_source p base name b) p.size size) size.h j >>= λ line. Some (column, line))) (axis_is p.x p.window.w p.size.w size.w i across)
@@ -59,10 +59,10 @@ given_by p base name b true c r pixels = refl
 given_by p base name b false c r pixels = refl
 
 band_is : (p : Planned) (base name : List ℕ) (b : OutBand) (size : Size) (pixels : ℕ → ℕ → ℤ) (i j : ℕ) → i < p.size.w → j < p.size.h
-    → mosaic_pixel (shown_band p base name b) (λ s. given_of s p.size size pixels) i j ≡ cond (is_inside size (shown_column p i) (shown_line p j)) (clamp b.kind (pixels (unsigned_abs (shown_column p i)) (unsigned_abs (shown_line p j)))) (unwrap_or b.nodata (pos 0))
+    → mosaic_pixel (shown_band p base name b) (λ s. given_of s p.size size pixels) i j ≡ cond (is_in_raster size (shown_column p i) (shown_line p j)) (clamp b.kind (pixels (unsigned_abs (shown_column p i)) (unsigned_abs (shown_line p j)))) (unwrap_or b.nodata (pos 0))
 band_is p base name b size pixels i j across down =
     ap (λ (o : Option (ℕ × ℕ)). unwrap_or (option_map (clamp b.kind) (option_or None (o >>= λ place. value_of (shown_source p base name b) (pixels place.0 place.1)))) (unwrap_or b.nodata (pos 0))) (cover_is p base name b size i j across down)
-    ∙ given_by p base name b (is_inside size (shown_column p i) (shown_line p j)) (unsigned_abs (shown_column p i)) (unsigned_abs (shown_line p j)) pixels
+    ∙ given_by p base name b (is_in_raster size (shown_column p i) (shown_line p j)) (unsigned_abs (shown_column p i)) (unsigned_abs (shown_line p j)) pixels
 
 -- the one item of a list
 lone : {A : Type 0} (x y : A) (n : ℕ) → slice_get (x ∷ []) n ≡ Some y → y ≡ x
@@ -113,10 +113,10 @@ of_member resolves m cat d p h k b is walked document shows at n t s e stands me
 
 -- the output's pixel in a mosaic's plan
 out_is : (p : Planned) (size : Size) (pixels : ℕ → ℕ → ℕ → ℤ) (k i j : ℕ) (b : OutBand) → p.driver ≡ Vrt → slice_get p.bands k ≡ Some b
-    → out_pixel p size pixels k i j ≡ cond (is_inside size (shown_column p i) (shown_line p j)) (clamp b.kind (pixels b.source (unsigned_abs (shown_column p i)) (unsigned_abs (shown_line p j)))) (unwrap_or b.nodata (pos 0))
+    → out_pixel p size pixels k i j ≡ cond (is_in_raster size (shown_column p i) (shown_line p j)) (clamp b.kind (pixels b.source (unsigned_abs (shown_column p i)) (unsigned_abs (shown_line p j)))) (unwrap_or b.nodata (pos 0))
 out_is p size pixels k i j b driver at =
     ap (λ (o : Option OutBand). pixel_in p size pixels o i j) at
-    ∙ ap (λ (v : Driver). cond (is_inside size (shown_column p i) (shown_line p j)) (held v b.kind (pixels b.source (unsigned_abs (shown_column p i)) (unsigned_abs (shown_line p j)))) (unwrap_or b.nodata (pos 0))) driver
+    ∙ ap (λ (v : Driver). cond (is_in_raster size (shown_column p i) (shown_line p j)) (held v b.kind (pixels b.source (unsigned_abs (shown_column p i)) (unsigned_abs (shown_line p j)))) (unwrap_or b.nodata (pos 0))) driver
 
 pub shows_output : (resolves : Resolves) (reads : Reads) (m : Files) (cat : List Dataset) (id k i j : ℕ) (d : Dataset) (p : Planned) (h : DatasetHead) → IsCatalog cat → IsWalked m cat → slice_get cat id ≡ Some d → IsPublished m d.head.name p h
     → k < length p.bands → i < p.size.w → j < p.size.h → pixel_of_name m d.head.name k i j ≡ out_pixel p h.size (pixel_of_name m h.name) k i j

@@ -27,7 +27,7 @@ use Rattle.translate_plan.specs.Options.{Options, IsOptions}
 use Rattle.translate_plan.specs.Window.{asked_in, is_empty, is_large, is_far, window_in, inside_in, sides_of, size_in, IsWindow}
 use Rattle.geotransform.specs.Limits.{farthest}
 use Rattle.translate_plan.specs.Fits.{own_nodata, is_single, count_in, geo_in, place_in, holds_geo, holds_name, takes_kind, is_int16, holds_kinds, takes_number, takes_nodata}
-use Rattle.translate_plan.specs.Bands.{all_known, AreKnown, count_of, kind_of, nodata_of, out_band_at, band_by, bands_by, same_nodata, agree, is_bare, asked_bands, out_bands, source_band, source_number_at}
+use Rattle.translate_plan.specs.Bands.{all_known, AreKnown, count_of, band_type_of, nodata_of, out_band_at, band_by, bands_by, same_nodata, agree, is_bare, asked_bands, out_bands, source_band, source_number_at}
 use Rattle.translate_plan.proofs.Rounded.{places_kept}
 use Rattle.translate_plan.specs.Plan.{Planned, fits, fits_in, plan_of, planned_by, IsOutBand, IsAlike, BandsHold, IsPlan}
 
@@ -123,7 +123,7 @@ int16_is Int32 e = absurd cc
 int16_is UInt64 e = absurd cc
 int16_is Int64 e = absurd cc
 
-tile_kind : (driver : Driver) (asked : Option PixelType) (first own : PixelType) (n : ℤ) → takes_kind driver asked ≡ true → own_nodata driver ≡ Some n → kind_of driver asked first own ≡ Int16
+tile_kind : (driver : Driver) (asked : Option PixelType) (first own : PixelType) (n : ℤ) → takes_kind driver asked ≡ true → own_nodata driver ≡ Some n → band_type_of driver asked first own ≡ Int16
 tile_kind EHdr asked first own n takes e = absurd cc
 tile_kind AaiGrid asked first own n takes e = absurd cc
 tile_kind Vrt asked first own n takes e = absurd cc
@@ -174,7 +174,7 @@ one_kept o h true k kinds words less = tt
 one_kept o h false k kinds words less =
     let first = (source_band h (source_number_at o.bands 0)).kind in
     let own = source_band h (source_number_at o.bands k) in
-    by_own (own_nodata o.driver) o.nodata (kind_of o.driver o.kind first own.kind) own.nodata
+    by_own (own_nodata o.driver) o.nodata (band_type_of o.driver o.kind first own.kind) own.nodata
     (λ n e. ap (λ t. is_in t n) (tile_kind o.driver o.kind first own.kind n kinds e) ∙ own_in o.driver n e)
     (λ n e is. passes (λ b. is_in b.kind n) (λ j. out_band_at o h j) (count_of o.bands (length h.bands)) k (out_band_at o h 0) (number_taken None o.nodata o.driver n (asked_bands o h) e is words) less)
 
@@ -215,9 +215,9 @@ agreed_at f n d e i j a b =
 raw_kind : (o : Options) (h : DatasetHead) → o.driver ≡ EHdr → (i j : ℕ) → (out_band_at o h i).kind ≡ (out_band_at o h j).kind
 raw_kind o h e i j =
     let first = (source_band h (source_number_at o.bands 0)).kind in
-    ap (λ d. kind_of d o.kind first (source_band h (source_number_at o.bands i)).kind) e ∙ same o.kind first _ _ ∙ ap (λ d. kind_of d o.kind first (source_band h (source_number_at o.bands j)).kind) (sym e)
+    ap (λ d. band_type_of d o.kind first (source_band h (source_number_at o.bands i)).kind) e ∙ same o.kind first _ _ ∙ ap (λ d. band_type_of d o.kind first (source_band h (source_number_at o.bands j)).kind) (sym e)
   where
-    same : (asked : Option PixelType) (first a b : PixelType) → kind_of EHdr asked first a ≡ kind_of EHdr asked first b
+    same : (asked : Option PixelType) (first a b : PixelType) → band_type_of EHdr asked first a ≡ band_type_of EHdr asked first b
     same None first a b = refl
     same (Some kind) first a b = refl
 

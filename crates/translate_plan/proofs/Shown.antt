@@ -17,7 +17,7 @@ use Rattle.dted_records.specs.Written.{IsElevation}
 use Rattle.translate_plan.specs.declared.options.Driver.{Driver}
 use Rattle.translate_plan.specs.declared.options.Driver.TheVariants.{EHdr, Dted, SrtmHgt, AaiGrid, Vrt}
 use Rattle.translate_plan.specs.declared.band.OutBand.{OutBand}
-use Rattle.translate_plan.specs.Plan.{Planned, BandsHold, IsOutBand, IsPlan, shown, shown_column, shown_line, is_inside, elevation_near, held, band_pixel, pixel_in, out_pixel}
+use Rattle.translate_plan.specs.Plan.{Planned, BandsHold, IsOutBand, IsPlan, shown, shown_column, shown_line, is_in_raster, elevation_near, held, band_pixel, pixel_in, out_pixel}
 
 near_in : (v : ℤ) → is_in Int16 v ≡ true → is_in Int16 (elevation_near v) ≡ true
 near_in v h = grind (arith, nat_tests, ints)
@@ -51,7 +51,7 @@ cell_kind p d level k b holds is e = one_of (λ b. (b.kind ≡ Int16) × (b.noda
 
 band_in : (p : Planned) (source : Size) (pixels : ℕ → ℕ → ℕ → ℤ) (k i j : ℕ) (b : OutBand) → IsPlan p → slice_get p.bands k ≡ Some b → is_in b.kind (band_pixel p source pixels b i j) ≡ true
 band_in p source pixels k i j b plan e =
-    either_in b.kind (is_inside source (shown_column p i) (shown_line p j)) _ _
+    either_in b.kind (is_in_raster source (shown_column p i) (shown_line p j)) _ _
     (held_in p.driver b.kind _ (λ level is. (cell_kind p p.driver level k b plan.alike is e).0))
     (fill_in b.kind b.nodata (one_of IsOutBand p.bands k b plan.each e))
 
@@ -69,7 +69,7 @@ option_near : (p : Planned) (source : Size) (pixels : ℕ → ℕ → ℕ → �
 option_near p source pixels k i j level None e plan is = omega arith
 option_near p source pixels k i j level (Some b) e plan is =
     let c = cell_kind p p.driver level k b plan.alike is e in
-    either_near (is_inside source (shown_column p i) (shown_line p j)) _ _
+    either_near (is_in_raster source (shown_column p i) (shown_line p j)) _ _
     (held_near p.driver level b.kind _ is c.0)
     (subst (λ n. IsElevation (unwrap_or n (pos 0))) (sym c.1) (omega arith))
 

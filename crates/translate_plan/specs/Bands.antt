@@ -41,17 +41,17 @@ abbrev pub source_band : DatasetHead → ℕ → BandHead
 source_band h b = unwrap_or (band_at h b) no_band
 
 -- the type of an output's band, by the type that is asked for, that of the first chosen band and that of its own
-abbrev pub kind_by : Driver → PixelType → PixelType → PixelType
-kind_by EHdr first own = first
-kind_by (Dted level) first own = Int16
-kind_by SrtmHgt first own = Int16
-kind_by AaiGrid first own = first
-kind_by Vrt first own = own
+abbrev pub band_type_by : Driver → PixelType → PixelType → PixelType
+band_type_by EHdr first own = first
+band_type_by (Dted level) first own = Int16
+band_type_by SrtmHgt first own = Int16
+band_type_by AaiGrid first own = first
+band_type_by Vrt first own = own
 
 -- the type of an output's band: the one that is asked for, or else that of the driver's rule
-abbrev pub kind_of : Driver → Option PixelType → PixelType → PixelType → PixelType
-kind_of driver (Some kind) first own = kind
-kind_of driver None first own = kind_by driver first own
+abbrev pub band_type_of : Driver → Option PixelType → PixelType → PixelType → PixelType
+band_type_of driver (Some kind) first own = kind
+band_type_of driver None first own = band_type_by driver first own
 
 -- the NODATA that is asked for, or the source's where the type has it
 abbrev pub nodata_by : NodataWord → PixelType → Option ℤ → Option ℤ
@@ -68,9 +68,9 @@ nodata_of None word kind source = nodata_by word kind source
 abbrev pub out_band : Options → PixelType → ℕ → BandHead → OutBand
 out_band o first source own = record {
   source = source;
-  kind = kind_of o.driver o.kind first own.kind;
+  kind = band_type_of o.driver o.kind first own.kind;
   nodata = nodata_of (own_nodata o.driver) o.nodata
-      (kind_of o.driver o.kind first own.kind) own.nodata;
+      (band_type_of o.driver o.kind first own.kind) own.nodata;
 }
 
 -- output band k

@@ -1,9 +1,9 @@
 -- What the driver of an output can hold.
-use Rattle.std.specs.Prelude.{ℕ, ℤ, negsuc, Bool, true, false, not, ◌&&◌, ◌||◌, ◌==◌, List, ◌++◌, codes, Option, Some}
+use Rattle.std.specs.Prelude.{ℕ, ℤ, Bool, true, false, not, ◌&&◌, ◌||◌, ◌==◌, List, ◌++◌, codes, Option, Some}
 use Rattle.std.specs.Prelude.{None, is_some, Result, Ok, Err, nat_lt, if◌then◌else◌}
 use Rattle.std.specs.List.{list_all}
 use Rattle.lists_and_answers.specs.Options.{◌>>=◌}
-use Rattle.geotransform.specs.Types.{bytes_of, highest, is_in, is_signed, lowest}
+use Rattle.geotransform.specs.Types.{byte_count, highest, is_in, is_signed, lowest}
 use Rattle.geotransform.specs.Places.{sixteen_places, are_same}
 use Rattle.geotransform.specs.Geo.{Transform, is_north_up, sizes_held, transform_of, cut_of}
 use Rattle.geotransform.specs.declared.types.Size.{Size}
@@ -19,6 +19,7 @@ use Rattle.dted_records.specs.Head as cells
 use Rattle.dted_records.specs.Fit.{cell_of}
 use Rattle.hgt_tiles.specs.Names as tiles
 use Rattle.hgt_tiles.specs.Places.{tile_of}
+use Rattle.catalog.specs.Drivers.{null_elevation, void_sample}
 use Rattle.catalog.specs.declared.nodata.NodataWord.{NodataWord}
 use Rattle.catalog.specs.declared.nodata.NodataWord.TheVariants.{Absent, Remove, Number}
 use Rattle.translate_plan.specs.declared.options.Driver.{Driver}
@@ -38,8 +39,8 @@ is_single Vrt = false
 -- the NODATA that a driver's files have by their format
 abbrev pub own_nodata : Driver → Option ℤ
 own_nodata EHdr = None
-own_nodata (Dted level) = Some (negsuc 32766)
-own_nodata SrtmHgt = Some (negsuc 32767)
+own_nodata (Dted level) = Some null_elevation
+own_nodata SrtmHgt = Some void_sample
 own_nodata AaiGrid = None
 own_nodata Vrt = None
 
@@ -113,7 +114,7 @@ holds_name AaiGrid name size geo = true
 holds_name Vrt name size geo = true
 
 abbrev pub is_int16 : PixelType → Bool
-is_int16 kind = (bytes_of kind == 2) && is_signed kind
+is_int16 kind = (byte_count kind == 2) && is_signed kind
 
 -- whether each number of a type is one of Int32
 abbrev pub is_within_int32 : PixelType → Bool

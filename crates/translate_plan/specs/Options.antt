@@ -1,19 +1,19 @@
 -- What a translation is asked for.
-use Rattle.std.specs.Prelude.{◌<◌, ◌≤◌, ◌≤ℤ◌, ◌^◌, ◌-◌, ℕ, ℤ, pos, neg_ℤ, Bool, List, All, Option, IfSome, unsigned_abs}
+use Rattle.std.specs.Prelude.{◌<◌, ◌≤◌, ◌^◌, ℕ, ℤ, Bool, List, All, Option, IfSome, unsigned_abs}
 use Rattle.geotransform.specs.Decimal.{IsRead}
 use Rattle.geotransform.specs.declared.types.PixelType.{PixelType}
 use Rattle.outside.specs.declared.name.Ext.{Ext}
 use Rattle.outside.specs.declared.name.Ext.TheVariants as exts
 use Rattle.esri_hdr.specs.declared.header_parts.Layout.{Layout}
+use Rattle.catalog.specs.Nodata.{IsNodataWord}
 use Rattle.catalog.specs.declared.nodata.NodataWord.{NodataWord}
-use Rattle.catalog.specs.declared.nodata.NodataWord.TheVariants as nodata
 use Rattle.translate_plan.specs.declared.options.Driver.{Driver}
 use Rattle.translate_plan.specs.declared.options.Driver.TheVariants as drivers
 use Rattle.translate_plan.specs.declared.options.View.{View}
 use Rattle.translate_plan.specs.declared.options.View.TheVariants as views
 use Rattle.translate_plan.specs.declared.options.OutSize.{OutSize}
 use Rattle.translate_plan.specs.declared.options.OutSize.TheVariants as sizes
-use Rattle.geotransform.specs.Limits.{most_bands}
+use Rattle.geotransform.specs.Limits.{most_bands, most_short_digits}
 
 -- the driver, the layout of raw data, the name and the bands of the output, counted from 1, the window, the size, the
 -- NODATA, the type, and whether the window may leave the raster in part or as a whole
@@ -51,25 +51,19 @@ driver_for exts.Grd = drivers.AaiGrid
 driver_for exts.Vrt = drivers.Vrt
 
 -- a number of up to nine digits
-abbrev pub IsWhole : ℤ → Type 0
-IsWhole n = unsigned_abs n < 10 ^ 9
+abbrev pub IsShortNumber : ℤ → Type 0
+IsShortNumber n = unsigned_abs n < 10 ^ most_short_digits
 
 -- pixels are whole numbers of up to nine digits, places are numbers that were read
 abbrev pub IsView : View → Type 0
 IsView views.Whole = Unit {0}
-IsView (views.Pixels x y w h) = IsWhole x × IsWhole y × IsWhole w × IsWhole h
+IsView (views.Pixels x y w h) = IsShortNumber x × IsShortNumber y × IsShortNumber w × IsShortNumber h
 IsView (views.Places ulx uly lrx lry) = IsRead ulx × IsRead uly × IsRead lrx × IsRead lry
 
 -- a number of up to nine digits
 abbrev pub IsOutSize : OutSize → Type 0
-IsOutSize (sizes.Count n) = n < 10 ^ 9
-IsOutSize (sizes.Percent n) = n < 10 ^ 9
-
--- a number of a type of 64 bits, with or without a sign
-abbrev pub IsWord : NodataWord → Type 0
-IsWord nodata.Absent = Unit {0}
-IsWord nodata.Remove = Unit {0}
-IsWord (nodata.Number n) = (neg_ℤ (pos (2 ^ 63)) ≤ℤ n) × (n ≤ℤ pos (2 ^ 64 - 1))
+IsOutSize (sizes.Count n) = n < 10 ^ most_short_digits
+IsOutSize (sizes.Percent n) = n < 10 ^ most_short_digits
 
 -- the ranges in which the values of words are
 pub record IsOptions (o : Options) : Type 0 where
@@ -77,4 +71,4 @@ pub record IsOptions (o : Options) : Type 0 where
   pub bands : All (λ b. (0 < b) × (b ≤ most_bands)) o.bands
   pub view : IsView o.view
   pub outsize : IfSome o.outsize (λ s. IsOutSize s.0 × IsOutSize s.1)
-  pub nodata : IsWord o.nodata
+  pub nodata : IsNodataWord o.nodata

@@ -1,5 +1,5 @@
 -- What a translation does, or why it can't be done.
-use Rattle.std.specs.Prelude.{◌≡◌, ◌<◌, ◌≤◌, ℕ, ℤ, pos, negsuc, ◌+ℤ◌, ◌+◌, ◌*◌, ◌/◌, Bool, true, ◌&&◌, List, length}
+use Rattle.std.specs.Prelude.{◌≡◌, ◌<◌, ◌≤◌, ℕ, ℤ, pos, ◌+ℤ◌, ◌+◌, ◌*◌, ◌/◌, Bool, true, ◌&&◌, List, length}
 use Rattle.std.specs.Prelude.{All, IfSome, Option, Some, None, Result, Ok, Err, slice_get, get_or, int_le, int_lt}
 use Rattle.std.specs.Prelude.{if◌then◌else◌, unsigned_abs}
 use Rattle.std.specs.Option.{unwrap_or}
@@ -16,6 +16,7 @@ use Rattle.esri_hdr.specs.Head as raw
 use Rattle.esri_hdr.specs.Head.{plain_head}
 use Rattle.vrt_profile.specs.Values.{IsDecimal}
 use Rattle.catalog.specs.Dataset.{DatasetHead}
+use Rattle.catalog.specs.Drivers.{null_elevation, void_sample}
 use Rattle.translate_plan.specs.declared.options.Driver.{Driver}
 use Rattle.translate_plan.specs.declared.options.Driver.TheVariants.{EHdr, Dted, SrtmHgt, AaiGrid, Vrt}
 use Rattle.translate_plan.specs.declared.band.OutBand.{OutBand}
@@ -86,8 +87,8 @@ pub record IsAlike (b c : OutBand) : Type 0 where
 -- what the bands of a driver's files have
 abbrev pub BandsHold : Driver → List OutBand → Type 0
 BandsHold EHdr bands = All (λ b. All (IsAlike b) bands) bands
-BandsHold (Dted level) bands = All (λ b. (b.kind ≡ Int16) × (b.nodata ≡ Some (negsuc 32766))) bands
-BandsHold SrtmHgt bands = All (λ b. (b.kind ≡ Int16) × (b.nodata ≡ Some (negsuc 32767))) bands
+BandsHold (Dted level) bands = All (λ b. (b.kind ≡ Int16) × (b.nodata ≡ Some null_elevation)) bands
+BandsHold SrtmHgt bands = All (λ b. (b.kind ≡ Int16) × (b.nodata ≡ Some void_sample)) bands
 BandsHold AaiGrid bands = holds_kinds AaiGrid bands ≡ true
 BandsHold Vrt bands = Unit {0}
 
@@ -130,12 +131,12 @@ abbrev pub shown_line : Planned → ℕ → ℤ
 shown_line p j = p.y +ℤ pos (shown p.window.h p.size.h j)
 
 -- a pixel lies in a raster
-abbrev pub is_inside : Size → ℤ → ℤ → Bool
-is_inside size x y = (int_le (pos 0) x && int_lt x (pos size.w)) && (int_le (pos 0) y && int_lt y (pos size.h))
+abbrev pub is_in_raster : Size → ℤ → ℤ → Bool
+is_in_raster size x y = (int_le (pos 0) x && int_lt x (pos size.w)) && (int_le (pos 0) y && int_lt y (pos size.h))
 
 -- the elevation that a record of a cell can hold and that is nearest to a number of Int16
 abbrev pub elevation_near : ℤ → ℤ
-elevation_near v = if int_lt v (negsuc 32766) then negsuc 32766 else v
+elevation_near v = if int_lt v null_elevation then null_elevation else v
 
 -- a sample in the type of its band, and for a cell in the elevations that records hold
 abbrev pub held : Driver → PixelType → ℤ → ℤ
@@ -148,7 +149,7 @@ held Vrt kind v = clamp kind v
 -- the pixel of one band of an output, by the source's size and its pixels by band, column and line
 abbrev pub band_pixel : Planned → Size → (ℕ → ℕ → ℕ → ℤ) → OutBand → ℕ → ℕ → ℤ
 band_pixel p source pixels b i j =
-    if is_inside source (shown_column p i) (shown_line p j)
+    if is_in_raster source (shown_column p i) (shown_line p j)
     then held p.driver b.kind (pixels b.source (unsigned_abs (shown_column p i)) (unsigned_abs (shown_line p j)))
     else unwrap_or b.nodata (pos 0)
 

@@ -21,7 +21,7 @@ use Rattle.translate_plan.specs.Fits.{count_in, geo_in, place_in}
 use Rattle.error_lines.specs.declared.faults.Fault.{Fault}
 use Rattle.error_lines.specs.declared.faults.Fault.TheVariants.{Changed, Memory}
 use Rattle.error_lines.specs.Faults.{fault_of, by_walk, IsOutside}
-use Rattle.error_lines.specs.Steps.{Step, Done, Prints, Warns, Publishes, all_done, applied, cut, printed, published, AreDone, Goes}
+use Rattle.error_lines.specs.Steps.{Step, Done, Prints, Warns, Publishes, all_done, applied, cut_short, printed, published, AreDone, Goes}
 use Rattle.output_copies.specs.Steps.{translation_steps}
 use Rattle.published_files.specs.Names.{unless_read}
 use Rattle.translation_runs.specs.Judged.{Judged, by_plan, translation_done, translation_judged, translation_run}
@@ -64,13 +64,13 @@ planned_driver o h p found =
     sym (ap (λ (q : Planned). q.driver) (ok_same {E = PlanFault} _ p _ refl held.rest))
 
 -- nothing was done
-cut_none : (steps : List Step) → (printed (cut 0 0 steps) ≡ []) × (published (cut 0 0 steps) ≡ [])
+cut_none : (steps : List Step) → (printed (cut_short 0 0 steps) ≡ []) × (published (cut_short 0 0 steps) ≡ [])
 cut_none [] = (refl, refl)
 cut_none (Prints text ∷ steps) = (refl, refl)
 cut_none (Warns line ∷ steps) = (refl, refl)
 cut_none (Publishes name bytes ∷ steps) = (refl, refl)
 
-nothing_done : (steps : List Step) (m : Files) (names : Option Files) (old : Option (List ℕ)) → names ≡ Some m → AreDone (cut 0 0 steps) m names old old
+nothing_done : (steps : List Step) (m : Files) (names : Option Files) (old : Option (List ℕ)) → names ≡ Some m → AreDone (cut_short 0 0 steps) m names old old
 nothing_done steps m names old is =
     let none = cut_none steps in
     record {
@@ -80,7 +80,7 @@ nothing_done steps m names old is =
 
 -- the outside failed before the first step, or the run was refused
 goes_nowhere : (r : Done) (m : Files) (f : Fault) (names : Option Files) (old : Option (List ℕ)) → names ≡ Some m → IsOutside f → Goes r m (Err f) names old old
-goes_nowhere r m f names old is out = inr (out, (cut 0 0 r.steps, (0, 0, refl), nothing_done r.steps m names old is))
+goes_nowhere r m f names old is out = inr (out, (cut_short 0 0 r.steps, (0, 0, refl), nothing_done r.steps m names old is))
 
 -- a fault of the outside of a walk is one of the run
 outside_walk : (f : WalkFault) → outcomes.IsOutside f → IsOutside (fault_of f)

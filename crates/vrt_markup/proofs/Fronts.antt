@@ -5,7 +5,6 @@ use Rattle.std.specs.List.{prefix_len}
 use Rattle.std.proofs.lemmas.List.Sums.{prefix_len_is}
 use Rattle.memchr.specs.Find.{IsFirstByte, is_byte2}
 use Rattle.vrt_markup.specs.Keys.{is_plain}
-use Rattle.std.proofs.Math.Seq.{take-length}
 use Rattle.vrt_markup.specs.Items.{begins, byte_at, is_equal, strip}
 use Rattle.lists_and_answers.specs.Options.{◌>>=◌}
 
@@ -74,7 +73,7 @@ four_none a b c d t h = ap (λ o. o >>= strip (c ∷ d ∷ [])) h ∙ two_front 
 pub four_some : (a b c d : ℕ) (t r : List ℕ) → Some r ≡ strip (a ∷ b ∷ []) t → strip (c ∷ d ∷ []) r ≡ strip (a ∷ b ∷ c ∷ d ∷ []) t
 four_some a b c d t r h = ap (λ o. o >>= strip (c ∷ d ∷ [])) h ∙ two_front a b (c ∷ d ∷ []) t
 
--- Texts are the same where they are as long as each other and one begins with the other.
+-- Texts of other lengths aren't the same.
 none_and : (a : Bool) → (a && false) ≡ false
 none_and true = refl
 none_and false = refl
@@ -84,6 +83,3 @@ unlike [] [] h = absurd (h refl)
 unlike [] (y ∷ ys) h = refl
 unlike (x ∷ xs) [] h = refl
 unlike (x ∷ xs) (y ∷ ys) h = sym (ap (λ b. (x == y) && b) (sym (unlike xs ys (λ e. h (omega (arith, e))))) ∙ none_and (x == y))
-
-pub whole_front : (a b : List ℕ) → length a ≡ length b → begins b a ≡ is_equal a b
-whole_front a b e = ap (λ n. is_equal (take n a) b) (sym e) ∙ ap (λ t. is_equal t b) (take-length a)

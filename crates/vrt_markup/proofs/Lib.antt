@@ -7,6 +7,7 @@ mod Bare
 mod Behind
 pub mod Reading
 mod Fronts
+mod Windows
 mod Entities
 mod Rising
 mod Lent

@@ -1,7 +1,7 @@
 -- What is left behind comments and white space, whatever the fuel.
 use Rattle.std.proofs.Common.{◌≡◌, ℕ, zero, suc, ◌-◌, ◌<◌, ◌≤◌, Bool, true, false, cond, List, length, Result, Ok, Err, refl, sym, ap, ◌∙◌, arith}
 use Rattle.vrt_markup.specs.Items.{item_at, Item, bad, comment, run, open_tag, close_tag, Tag}
-use Rattle.vrt_markup.specs.Forest.{is_blank}
+use Rattle.vrt_markup.specs.Forest.{is_all_white}
 use Rattle.vrt_markup.specs.Views.{IsShorter}
 use Rattle.vrt_markup.specs.Tree.{space_step, space_by, space, Root, root_item, root_behind}
 use Rattle.vrt_markup.specs.declared.fault.VrtFault.{VrtFault}
@@ -21,7 +21,7 @@ cond_same false x y z e = refl
 step_same : (more other : More) (T : ℕ) (t : List ℕ) (i : Item) → IsShorter i t → ((r : List ℕ) → length r < length t → more r ≡ other r) → space_step more T t i ≡ space_step other T t i
 step_same more other T t bad i same = refl
 step_same more other T t (comment r) i same = same r i
-step_same more other T t (run raw r) i same = cond_same (is_blank raw) (more r) (other r) (Err (BadText (T - length t))) (same r i)
+step_same more other T t (run raw r) i same = cond_same (is_all_white raw) (more r) (other r) (Err (BadText (T - length t))) (same r i)
 step_same more other T t (open_tag tag r) i same = refl
 step_same more other T t (close_tag n r) i same = refl
 
@@ -56,10 +56,10 @@ space_close T t n r e = next T t (close_tag n r) e
 pub space_comment : (T : ℕ) (t r : List ℕ) → comment r ≡ item_at t → space T t ≡ space T r
 space_comment T t r e = next T t (comment r) e
 
-pub space_run : (T : ℕ) (t raw r : List ℕ) → run raw r ≡ item_at t → is_blank raw ≡ true → space T t ≡ space T r
+pub space_run : (T : ℕ) (t raw r : List ℕ) → run raw r ≡ item_at t → is_all_white raw ≡ true → space T t ≡ space T r
 space_run T t raw r e blank = next T t (run raw r) e ∙ ap (λ b. cond b (space T r) (Err (BadText (T - length t)))) blank
 
-pub space_text : (T : ℕ) (t raw r : List ℕ) → run raw r ≡ item_at t → is_blank raw ≡ false → space T t ≡ Err (BadText (T - length t))
+pub space_text : (T : ℕ) (t raw r : List ℕ) → run raw r ≡ item_at t → is_all_white raw ≡ false → space T t ≡ Err (BadText (T - length t))
 space_text T t raw r e blank = next T t (run raw r) e ∙ ap (λ b. cond b (space T r) (Err (BadText (T - length t)))) blank
 
 -- the root's tag, by the item in front
@@ -78,10 +78,10 @@ root_close T t n r e = ap (from_start T) (space_close T t n r e) ∙ ap (root_it
 pub root_comment : (T : ℕ) (t r : List ℕ) → comment r ≡ item_at t → root_behind T t ≡ root_behind T r
 root_comment T t r e = ap (from_start T) (space_comment T t r e)
 
-pub root_run : (T : ℕ) (t raw r : List ℕ) → run raw r ≡ item_at t → is_blank raw ≡ true → root_behind T t ≡ root_behind T r
+pub root_run : (T : ℕ) (t raw r : List ℕ) → run raw r ≡ item_at t → is_all_white raw ≡ true → root_behind T t ≡ root_behind T r
 root_run T t raw r e blank = ap (from_start T) (space_run T t raw r e blank)
 
-pub root_text : (T : ℕ) (t raw r : List ℕ) → run raw r ≡ item_at t → is_blank raw ≡ false → root_behind T t ≡ Err (BadText (T - length t))
+pub root_text : (T : ℕ) (t raw r : List ℕ) → run raw r ≡ item_at t → is_all_white raw ≡ false → root_behind T t ≡ Err (BadText (T - length t))
 root_text T t raw r e blank = ap (from_start T) (space_text T t raw r e blank)
 
 -- a first step that fails

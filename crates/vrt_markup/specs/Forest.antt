@@ -64,14 +64,15 @@ over step s stop = Ok s
 over step s (text raw more) = over step s more
 over step s (element place tag inside more) = step s place tag inside >>= λ t. over step t more
 
--- whether all text directly in it is white space
-abbrev pub is_blank : List ℕ → Bool
-is_blank raw = list_all is_white raw
+-- whether a text is white space alone
+abbrev pub is_all_white : List ℕ → Bool
+is_all_white raw = list_all is_white raw
 
-abbrev pub all_blank : Forest → Bool
-all_blank stop = true
-all_blank (text raw more) = is_blank raw && all_blank more
-all_blank (element place tag inside more) = all_blank more
+-- whether all text directly in it is white space
+abbrev pub all_white : Forest → Bool
+all_white stop = true
+all_white (text raw more) = is_all_white raw && all_white more
+all_white (element place tag inside more) = all_white more
 
 -- what an element means, and the bytes behind it
 abbrev pub read_as : {A : Type 0} → (Forest → A) → Read → Result (A × List ℕ) VrtFault

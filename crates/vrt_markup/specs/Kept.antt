@@ -2,7 +2,7 @@
 use Rattle.std.specs.Prelude.{ℕ, Bool, ◌&&◌, List, ◌++◌, Option, Some, None, Result, Ok, Err, ◌≡◌}
 use Rattle.vrt_markup.specs.Items.{Tag}
 use Rattle.lists_and_answers.specs.Answers.{◌>>=◌}
-use Rattle.vrt_markup.specs.Forest.{Forest, over, all_blank, text_of, child_of}
+use Rattle.vrt_markup.specs.Forest.{Forest, over, all_white, text_of, child_of}
 use Rattle.vrt_markup.specs.declared.fault.VrtFault.{VrtFault}
 use Rattle.vrt_markup.specs.declared.fault.VrtFault.TheVariants.{BadText, UnknownElement, MissingPart, BadNumber}
 use Rattle.vrt_markup.specs.declared.fault.VrtFault.TheVariants.{Unsupported, Limit, Memory}
@@ -26,7 +26,7 @@ Gives view (Err e) read = Fails e read
 -- the parts or the first fault among its children, and whether its text is blank.
 abbrev pub seen : {S : Type 0} → (S → ℕ → Tag → Forest → Result S VrtFault) → Result S VrtFault → Bool → Forest →
     Result S VrtFault × Bool
-seen step kept blank forest = (kept >>= λ s. over step s forest, blank && all_blank forest)
+seen step kept blank forest = (kept >>= λ s. over step s forest, blank && all_white forest)
 
 abbrev pub first_child : Option ℕ → Option ℕ → Option ℕ
 first_child None later = later

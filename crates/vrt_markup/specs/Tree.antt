@@ -5,14 +5,15 @@ use Rattle.std.specs.Str.Lossy.{utf8_valid_len}
 use Rattle.vrt_markup.specs.Items.{Item, bad, comment, run, open_tag, close_tag, Tag, item_at, strip, begins}
 use Rattle.vrt_markup.specs.Items.{option_case}
 use Rattle.lists_and_answers.specs.Answers.{◌>>=◌}
-use Rattle.vrt_markup.specs.Forest.{Forest, inner, is_blank}
+use Rattle.vrt_markup.specs.Forest.{Forest, inner, is_all_white}
 use Rattle.vrt_markup.specs.declared.fault.VrtFault.{VrtFault}
 use Rattle.vrt_markup.specs.declared.fault.VrtFault.TheVariants.{BadText}
 
 -- Outside the root only comments and white space stand: what is left behind them.
 abbrev pub space_step : (List ℕ → Result (List ℕ) VrtFault) → ℕ → List ℕ → Item → Result (List ℕ) VrtFault
 space_step more total bytes (comment rest) = more rest
-space_step more total bytes (run raw rest) = if is_blank raw then more rest else Err (BadText (total - length bytes))
+space_step more total bytes (run raw rest) = if is_all_white raw then more rest
+    else Err (BadText (total - length bytes))
 space_step more total bytes bad = Ok bytes
 space_step more total bytes (open_tag tag rest) = Ok bytes
 space_step more total bytes (close_tag name rest) = Ok bytes

@@ -12,7 +12,7 @@ use crate::fault::VrtFault;
 use crate::items::{Item, item_at};
 use crate::past::{DEEPEST, past_element};
 use crate::tag::Tag;
-use crate::text::is_blank;
+use crate::text::is_all_white;
 use crate::tokens::is_equal;
 use std::alloc::Global;
 
@@ -125,7 +125,11 @@ fn likely_item<'a>(alloc: Global, text: &'a [u8], name: &'a [u8]) -> Item<'a>
             };
             Item::Open(tag, rest)
         }
-        None => other_item(alloc, text),
+        None => {
+            // It has a place of its own, so that the item of the likely tag stays in registers.
+            let item = other_item(alloc, text);
+            item
+        }
     }
 }
 
@@ -161,7 +165,7 @@ fn child_nodes<'a, P: Parts>(
             Item::NoMemory => return Err(VrtFault::Memory),
             Item::Comment(more) => rest = more,
             Item::Run(raw, more) => {
-                seen.blank = seen.blank & is_blank(raw);
+                seen.blank = seen.blank & is_all_white(raw);
                 rest = more;
             }
             Item::Close(other, more) if is_equal(other, name) => return Ok((seen, more)),

@@ -1,7 +1,7 @@
 // Tags of a name that is known.
 ghost use Rattle.std.specs.Prelude.{◌≡◌, ◌<◌, ◌++◌, ◌∷◌, length, IfSome};
 
-use crate::tokens::{byte_at, strip, two_at};
+use crate::tokens::{behind_name, byte_at, two_at};
 
 /// What stands behind the end tag of this name, where the text begins with it, without white space in it.
 #[inline(always)]
@@ -21,16 +21,8 @@ fn name_end<'a>(text: &'a [u8], name: &[u8]) -> Option<&'a [u8]>
     ensures whole { IfSome result (λ r. text.now ≡ name.now ++ 62 ∷ r.now) }
     ensures shorter { IfSome result (λ r. length r.now < length text.now) }
 {
-    let rest = strip(text, name)?;
+    let rest = behind_name(text, name)?;
     byte_at(rest, b'>')
-}
-
-// Whether two texts begin with the same byte: asked first, since most tags have another name.
-fn begins_alike(a: &[u8], b: &[u8]) -> bool {
-    match (a, b) {
-        ([c, ..], [d, ..]) => *c == *d,
-        _ => false,
-    }
 }
 
 /// What stands behind the start tag of this name, where the text begins with it, without white space in it.
@@ -41,8 +33,5 @@ pub fn own_start<'a>(text: &'a [u8], name: &[u8]) -> Option<&'a [u8]>
     ensures shorter { IfSome result (λ r. length r.now < length text.now) }
 {
     let rest = byte_at(text, b'<')?;
-    if !begins_alike(rest, name) {
-        return None;
-    }
     name_end(rest, name)
 }

@@ -202,14 +202,16 @@ fn named_front(text: &[u8]) -> Option<&[u8]>
     Some(rest)
 }
 
-/// The item in front of a text. A tag that ends behind its name has no attributes.
+/// The item in front of a text. A tag that ends behind its name has no attributes. What calls find has a place of its
+/// own, so that the item of such a tag stays in registers.
 #[inline(always)]
 pub fn item_at(alloc: Global, text: &[u8]) -> Item
     ensures item { Finds result (item_at text.now) }
     ensures shorter { Shortens result text.now }
 {
     let Some(front) = named_front(text) else {
-        return any_item(text);
+        let item = any_item(text);
+        return item;
     };
     let (name, attributes) = name_front(front);
     match tag_end(attributes) {
@@ -221,6 +223,9 @@ pub fn item_at(alloc: Global, text: &[u8]) -> Item
             };
             Item::Open(tag, rest)
         }
-        None => full_item(alloc, front, name, attributes),
+        None => {
+            let item = full_item(alloc, front, name, attributes);
+            item
+        }
     }
 }

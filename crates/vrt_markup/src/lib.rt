@@ -19,5 +19,5 @@ pub use items::{Item, item_at};
 pub use past::past_element;
 pub use root::{Root, end_at, root_at, utf8_of};
 pub use tag::Tag;
-pub use text::{Plain, Words, is_blank, text_element};
+pub use text::{Plain, Words, is_all_white, text_element};
 pub use tokens::{is_equal, trim_front};

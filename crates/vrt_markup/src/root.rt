@@ -9,7 +9,7 @@ ghost use Rattle.vrt_markup.specs.Tree.{root_at, end_by, end_at};
 use crate::fault::VrtFault;
 use crate::items::{Item, item_at};
 use crate::tag::Tag;
-use crate::text::is_blank;
+use crate::text::is_all_white;
 use crate::tokens::strip;
 use std::alloc::Global;
 use std::str;
@@ -27,7 +27,7 @@ fn space(alloc: Global, total: usize, bytes: &[u8]) -> Result<&[u8], VrtFault>
             Item::NoMemory => return Err(VrtFault::Memory),
             Item::Comment(more) => rest = more,
             Item::Run(raw, more) => {
-                if !is_blank(raw) {
+                if !is_all_white(raw) {
                     return Err(VrtFault::BadText((total - rest.len()) as u64));
                 }
                 rest = more;
@@ -110,7 +110,7 @@ fn root_behind(alloc: Global, total: usize, bytes: &[u8]) -> Result<Root, VrtFau
             Item::NoMemory => return Err(VrtFault::Memory),
             Item::Comment(more) => rest = more,
             Item::Run(raw, more) => {
-                if !is_blank(raw) {
+                if !is_all_white(raw) {
                     return Err(VrtFault::BadText(place));
                 }
                 rest = more;

@@ -5,7 +5,7 @@ ghost use Rattle.std.specs.List.{prefix_len};
 ghost use Rattle.lists_and_answers.specs.Texts.{is_white};
 ghost use Rattle.vrt_markup.specs.Items.{is_name};
 ghost use Rattle.vrt_markup.specs.Keys.{is_plain, is_literal};
-ghost use Rattle.vrt_markup.specs.Forest.{deepest, nodes, inner, is_blank, plain_at, decoded, read_as};
+ghost use Rattle.vrt_markup.specs.Forest.{deepest, nodes, inner, is_all_white, plain_at, decoded, read_as};
 ghost use Rattle.vrt_markup.specs.Views.{tag_view, text_view, plain_text};
 ghost use Rattle.vrt_markup.specs.Kept.{Gives, worded, first_child};
 
@@ -20,8 +20,8 @@ use memchr::memchr2;
 use std::alloc::{AllocError, Global};
 
 /// Whether it is white space alone.
-pub fn is_blank(raw: &[u8]) -> bool
-    ensures blank { result ≡ is_blank raw.now }
+pub fn is_all_white(raw: &[u8]) -> bool
+    ensures blank { result ≡ is_all_white raw.now }
 {
     raw.iter().all(|c| is_white(*c))
 }
@@ -163,13 +163,41 @@ fn text_nodes<'a>(
     }
 }
 
-// How many bytes stand in front of the first tag or entity.
+// Whether a byte begins neither a tag nor an entity.
+fn is_plain(c: u8) -> bool
+    ensures { result ≡ is_plain c }
+{
+    c != b'<' && c != b'&'
+}
+
+// How many bytes stand in front of the first tag or entity, many asked at once.
+#[inline(never)]
 #[tactic(auto, using(crate::proofs::Fronts::first_place, crate::proofs::Fronts::place_within))]
-fn plain_front(bytes: &[u8]) -> usize
+fn plain_far(bytes: &[u8]) -> usize
     ensures count { result ≡ prefix_len is_plain bytes.now }
     ensures bound { result ≤ length bytes.now }
 {
     memchr2(b'<', b'&', bytes).unwrap_or(bytes.len())
+}
+
+// How many bytes stand in front of the first tag or entity. Most texts are short, so a few are asked one at a time.
+fn plain_front(bytes: &[u8]) -> usize
+    ensures count { result ≡ prefix_len is_plain bytes.now }
+    ensures bound { result ≤ length bytes.now }
+{
+    let mut rest = bytes;
+    let mut count = 0;
+    while let [c, more @ ..] = rest {
+        if count >= 16 {
+            return count + plain_far(rest);
+        }
+        if !is_plain(*c) {
+            return count;
+        }
+        rest = more;
+        count += 1;
+    }
+    count
 }
 
 // The text in an element of this name, behind its start tag, where it stands there in one piece as it is.
@@ -218,6 +246,10 @@ pub fn text_element<'a>(
             },
             behind,
         )),
-        None => text_nodes(alloc, total, depth + 1, tag.name, bytes),
+        None => {
+            // It has a place of its own, so that a text that is lent stays in registers.
+            let words = text_nodes(alloc, total, depth + 1, tag.name, bytes);
+            words
+        }
     }
 }

@@ -1,11 +1,12 @@
 // What items are made of: white space, names, entities, plain text and values between quotes.
-ghost use Rattle.std.specs.Prelude.{◌≡◌, ◌<◌, ◌≤◌, ◌+◌, length, true, IfSome, Some, None, [], ◌∷◌, drop, codes};
+ghost use Rattle.std.specs.Prelude.{◌≡◌, ◌<◌, ◌≤◌, ◌+◌, ◌-◌, length, true, IfSome, Some, None, [], ◌∷◌, take, drop};
+ghost use Rattle.std.specs.Prelude.{codes};
 ghost use Rattle.std.specs.Option.{option_map};
 ghost use Rattle.std.specs.List.{prefix_len};
 ghost use Rattle.lists_and_answers.specs.Texts.{is_white};
 ghost use Rattle.vrt_markup.specs.Items.{is_name, is_some, strip, trim_front, is_first, is_later, has_first, name_at};
 ghost use Rattle.vrt_markup.specs.Items.{byte_at, after_comment, entity_at, ends_at, plain_len, spaces_at, quote_at};
-ghost use Rattle.vrt_markup.specs.Items.{value_at, is_equal, begins};
+ghost use Rattle.vrt_markup.specs.Items.{value_at, is_equal};
 
 use lists_and_answers::is_white;
 
@@ -16,12 +17,6 @@ pub(crate) fn strip<'a>(text: &'a [u8], front: &[u8]) -> Option<&'a [u8]>
     ensures shorter { IfSome result (λ r. length r.now + length front.now ≤ length text.now) }
 {
     text.strip_prefix(front)
-}
-
-fn begins(text: &[u8], front: &[u8]) -> bool
-    ensures { result ≡ begins front.now text.now }
-{
-    strip(text, front).is_some()
 }
 
 #[inline(never)]
@@ -306,17 +301,104 @@ pub(crate) fn value_at(text: &[u8]) -> Option<(&[u8], &[u8])>
     Some((value, rest))
 }
 
-/// Whether two texts are the same. Short ones are told as fronts are.
+// Whether the first N bytes of two texts are the same.
 #[inline(always)]
-#[tactic(auto, using(crate::proofs::Fronts::unlike, crate::proofs::Fronts::whole_front))]
+#[tactic(auto, using(crate::proofs::Windows::taken_same))]
+fn same_front<const N: usize>(a: &[u8], b: &[u8]) -> bool
+    requires long { N ≤ length a.now }
+    requires some { N ≤ length b.now }
+    ensures same { result ≡ is_equal (take N a.now) (take N b.now) }
+{
+    let Some((front, _)) = a.split_first_chunk::<N>() else {
+        return false;
+    };
+    let Some((other, _)) = b.split_first_chunk::<N>() else {
+        return false;
+    };
+    *front == *other
+}
+
+// Whether the last N bytes of two texts are the same.
+#[inline(always)]
+#[tactic(auto, using(crate::proofs::Windows::left_same))]
+fn same_back<const N: usize>(a: &[u8], b: &[u8]) -> bool
+    requires long { N ≤ length a.now }
+    requires some { N ≤ length b.now }
+    ensures same { result ≡ is_equal (drop (length a.now - N) a.now) (drop (length b.now - N) b.now) }
+{
+    let Some((_, back)) = a.split_last_chunk::<N>() else {
+        return false;
+    };
+    let Some((_, other)) = b.split_last_chunk::<N>() else {
+        return false;
+    };
+    *back == *other
+}
+
+// Whether two texts of one length are the same, by their first N bytes and their last N ones, between which none is
+// left.
+#[inline(always)]
+#[tactic(auto, using(crate::proofs::Windows::first_window, crate::proofs::Windows::last_window))]
+fn same_ends<const N: usize>(a: &[u8], b: &[u8]) -> bool
+    requires even { length a.now ≡ length b.now }
+    requires some { N ≤ length b.now }
+    requires few { length b.now ≤ N + N }
+    ensures same { result ≡ is_equal a.now b.now }
+{
+    if !same_front::<N>(a, b) {
+        return false;
+    }
+    same_back::<N>(a, b)
+}
+
+// Whether two texts of one length are the same. Short ones, as names are, are compared by a few words of theirs, which
+// may overlap.
+#[inline(always)]
+fn same_text(a: &[u8], b: &[u8]) -> bool
+    requires even { length a.now ≡ length b.now }
+    ensures same { result ≡ is_equal a.now b.now }
+{
+    let count = b.len();
+    if count > 16 || count == 0 {
+        return a == b;
+    }
+    if count >= 8 {
+        return same_ends::<8>(a, b);
+    }
+    if count >= 4 {
+        return same_ends::<4>(a, b);
+    }
+    if count >= 2 {
+        return same_ends::<2>(a, b);
+    }
+    same_ends::<1>(a, b)
+}
+
+/// Whether two texts are the same.
+#[inline(always)]
+#[tactic(auto, using(crate::proofs::Fronts::unlike))]
 pub fn is_equal(a: &[u8], b: &[u8]) -> bool
     ensures same { result ≡ is_equal a.now b.now }
 {
-    if b.len() > 8 {
-        return a == b;
-    }
     if a.len() != b.len() {
         return false;
     }
-    begins(a, b)
+    same_text(a, b)
+}
+
+/// What stands behind a name, where the text begins with it.
+#[inline(always)]
+#[tactic(auto, using(crate::proofs::Windows::short_front, crate::proofs::Windows::name_some, crate::proofs::Windows::name_none))]
+pub(crate) fn behind_name<'a>(text: &'a [u8], name: &[u8]) -> Option<&'a [u8]>
+    ensures rest { option_map (λ r. r.now) result ≡ strip name.now text.now }
+    ensures shorter { IfSome result (λ r. length r.now + length name.now ≤ length text.now) }
+{
+    if text.len() < name.len() {
+        return None;
+    }
+    let (front, rest) = text.split_at(name.len());
+    if !is_equal(front, name) {
+        return None;
+    }
+    Some(rest)
 }

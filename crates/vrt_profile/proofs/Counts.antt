@@ -7,7 +7,7 @@ use Rattle.std.proofs.lemmas.Bool.Decides.{nat_tests}
 use Rattle.lists_and_answers.specs.Answers.{◌>>=◌, wants}
 use Rattle.geotransform.specs.declared.types.PixelType.{PixelType}
 use Rattle.vrt_markup.specs.Items.{Tag, attribute}
-use Rattle.vrt_markup.specs.Forest.{Forest, stop, text, element, Read, read_as, over, all_blank}
+use Rattle.vrt_markup.specs.Forest.{Forest, stop, text, element, Read, read_as, over, all_white}
 use Rattle.vrt_profile.specs.Values.{SourceValue, BandValue, IsSource, IsBand, IsDecimal, source_count}
 use Rattle.vrt_profile.specs.Means.{BandParts, DatasetParts, no_band_parts, once, with_source, band_parts, band_step, band_part_of, band_end, band_of, kind_in, is_placed, is_sourced}
 use Rattle.vrt_markup.specs.Kept.{kept_of}
@@ -112,7 +112,7 @@ value_of (Err e) = Err e
 
 pub band_fits : (number taken : ℕ) (tag : Tag) (b : BandValue) (f : Forest) → taken ≤ 262144 → band_of number taken tag f ≡ Ok b → taken + length b.sources ≤ 262144
 band_fits number taken tag b f some h =
-    let p = band_by_ok (kind_in (attribute (codes "dataType") tag.pairs)) (is_placed number (attribute (codes "band") tag.pairs)) (is_sourced (attribute (codes "subClass") tag.pairs)) (all_blank f) (over band_step (no_band_parts taken) f) b h in
+    let p = band_by_ok (kind_in (attribute (codes "dataType") tag.pairs)) (is_placed number (attribute (codes "band") tag.pairs)) (is_sourced (attribute (codes "subClass") tag.pairs)) (all_white f) (over band_step (no_band_parts taken) f) b h in
     let all = fits_over taken (no_band_parts taken) p.0 f (record { same = refl; few = omega (arith, some) }) p.1 in
     omega (arith, all.few, ap length p.2)
 

@@ -1,10 +1,12 @@
 -- What is read keeps the rules of a document.
-use Rattle.std.proofs.Common.{◌≡◌, ℕ, ℤ, ◌<◌, ◌^◌, ◌%◌, ◌&&◌, Bool, true, false, cond, List, Option, Some, None, refl, subst, sym, arith, nat_lt, unsigned_abs, IfSome}
+use Rattle.std.proofs.Common.{◌≡◌, ℕ, ℤ, ◌<◌, ◌^◌, ◌%◌, ◌&&◌, Bool, true, false, cond, List, Option, Some, None, refl, subst, sym, ap, ◌∙◌, arith, nat_lt, unsigned_abs, IfSome}
 use Rattle.std.proofs.lemmas.Bool.Decides.{nat_tests}
 use Rattle.std.proofs.lemmas.Int.{ints}
 use Rattle.geotransform.specs.Decimal.{whole_of, parts_of, exact, mantissa, power, signed, IsRead}
 use Rattle.geotransform.specs.Geo.{Transform, IsTransform, transform_of, is_near, is_step}
+use Rattle.vrt_profile.specs.Scaling.{ScalingValue, scaling_of}
 use Rattle.vrt_profile.specs.Values.{IsDecimal}
+use Rattle.vrt_profile.specs.declared.rectangle.LutPair.{LutPair}
 use Rattle.vrt_markup.proofs.Shorter.{bind_some, guard_some}
 
 pub signed_size : (b : Bool) (n : ℕ) → unsigned_abs (signed b n) ≡ n
@@ -38,3 +40,7 @@ decimal_geo ox oy dx dy g h kept a b c d =
 pub decimal_option : (ox oy dx dy : ℤ) (o : Option Transform) → o ≡ transform_of ox oy dx dy → IfSome o IsTransform → IsRead ox → IsRead oy → IsRead dx → IsRead dy → IfSome o IsDecimal
 decimal_option ox oy dx dy None h kept a b c d = tt
 decimal_option ox oy dx dy (Some g) h kept a b c d = decimal_geo ox oy dx dy g h kept a b c d
+
+-- the scaling of a source that is complex
+pub complex_scaling : (complex : Bool) (nodata : Option (Option ℤ)) (offset ratio : Option ℤ) (lut : Option (List LutPair)) (s : ScalingValue) → complex ≡ true → s ≡ scaling_of true nodata offset ratio lut → s ≡ scaling_of complex nodata offset ratio lut
+complex_scaling complex nodata offset ratio lut s is told = told ∙ ap (λ b. scaling_of b nodata offset ratio lut) (sym is)

@@ -9,7 +9,7 @@ use Rattle.vrt_profile.specs.Fields.{length_before, cut_by, cut_at, pieces, onto
 use Rattle.geotransform.specs.Decimal.{places_of}
 use Rattle.vrt_markup.proofs.Shorter.{bind_some}
 use Rattle.vrt_profile.proofs.Rules.{guard_true}
-use Rattle.vrt_profile.specs.Numbers.{is_above, rising_pair, next_pair, lut_from, lut_of}
+use Rattle.vrt_profile.specs.Numbers.{is_above, rising_pair, next_pair, lut_from, lut_behind, lut_of}
 use Rattle.vrt_profile.specs.Values.{million, is_below, is_rising, IsPair, IsLut}
 use Rattle.vrt_profile.specs.declared.rectangle.LutPair.{LutPair}
 use Rattle.vrt_markup.specs.declared.fault.VrtFault.{VrtFault}
@@ -109,6 +109,11 @@ one_pair t pair is last =
     let whole : ◌≡◌ {A = List ℕ × Option (List ℕ)} ((first_piece t).0, None) (first_piece t) = ap (λ o. ((first_piece t).0, o)) last in
     let found : Ok pair ≡ next_pair 0 None (first_piece t).0 = ap (λ o. ok_or o BadNumber >>= rising_pair None) (sym is) in
     sym (table_last [] None t (first_piece t).0 pair whole found) ∙ ok_end (lut_of t)
+
+-- a table by its pairs of whole numbers in front, and by what stands behind them
+pub whole_table : (first mid : List LutPair) (last : Option LutPair) (t rest : List ℕ) (kept pairs : Result (List LutPair) VrtFault) → first ≡ [] → lut_behind mid last rest ≡ lut_behind first None t → kept ≡ lut_behind mid last rest → pairs ≡ kept → ◌≡◌ {A = Result (Result (List LutPair) VrtFault) VrtFault} (Ok pairs) (Ok (lut_of t))
+whole_table first mid last t rest kept pairs none front behind is =
+    ap Ok (is ∙ behind ∙ front ∙ ap (λ xs. lut_behind xs None t) none ∙ ok_end (lut_of t))
 
 abbrev pub left_after : List LutPair → LutPair → List ℕ → Result (List LutPair) VrtFault
 left_after xs pair rest = Left (length xs) (Some pair) (pieces 44 rest) xs

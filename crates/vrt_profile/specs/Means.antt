@@ -13,7 +13,7 @@ use Rattle.geotransform.specs.declared.types.PixelType.TheVariants.{Byte}
 use Rattle.vrt_markup.specs.Items.{Tag, is_equal, attribute, is_some}
 use Rattle.vrt_profile.specs.Fields.{trim, whole_text}
 use Rattle.vrt_profile.specs.Numbers.{side_in, offset_in, size_in, band_number, scale_of, lut_of, geo_of}
-use Rattle.vrt_markup.specs.Forest.{Forest, over, all_blank, text_of, child_of}
+use Rattle.vrt_markup.specs.Forest.{Forest, over, all_white, text_of, child_of}
 use Rattle.vrt_markup.specs.Kept.{no_child}
 use Rattle.vrt_profile.specs.Values.{trillion, Rectangle, SourceValue, BandValue, DocumentValue, most_sources}
 use Rattle.vrt_profile.specs.declared.rectangle.LutPair.{LutPair}
@@ -124,7 +124,7 @@ rect_of tag inside = do
   y ← offset_in (attribute (codes "yOff") tag.pairs)
   w ← size_in (attribute (codes "xSize") tag.pairs)
   h ← size_in (attribute (codes "ySize") tag.pairs)
-  blank ← wants (all_blank inside) Unsupported
+  blank ← wants (all_white inside) Unsupported
   bare ← over no_child true inside
   Ok (record { x = x; y = y; w = w; h = h })
 
@@ -257,7 +257,7 @@ is_nearest (Some text) = same_letters text (codes "nearest") || same_letters tex
 -- in order: its attributes and text in it, its children, what is missing
 abbrev pub source_of : Bool → Tag → Forest → Result SourceValue VrtFault
 source_of complex tag inside = do
-  plain ← wants (is_nearest (attribute (codes "resampling") tag.pairs) && all_blank inside) Unsupported
+  plain ← wants (is_nearest (attribute (codes "resampling") tag.pairs) && all_white inside) Unsupported
   parts ← over (source_step complex) no_parts inside
   source_end complex parts
 
@@ -316,7 +316,7 @@ abbrev pub band_of : ℕ → ℕ → Tag → Forest → Result BandValue VrtFaul
 band_of number taken tag inside = do
   kind ← kind_in (attribute (codes "dataType") tag.pairs)
   placed ← wants (is_placed number (attribute (codes "band") tag.pairs)) BadNumber
-  plain ← wants (is_sourced (attribute (codes "subClass") tag.pairs) && all_blank inside) Unsupported
+  plain ← wants (is_sourced (attribute (codes "subClass") tag.pairs) && all_white inside) Unsupported
   parts ← over band_step (no_band_parts taken) inside
   band_end kind parts
 
@@ -374,7 +374,7 @@ unfoldable pub dataset_of : Tag → Forest → Result DocumentValue VrtFault
 dataset_of tag inside = do
   w ← side_in (attribute (codes "rasterXSize") tag.pairs)
   h ← side_in (attribute (codes "rasterYSize") tag.pairs)
-  plain ← wants (not (is_some (attribute (codes "subClass") tag.pairs)) && all_blank inside) Unsupported
+  plain ← wants (not (is_some (attribute (codes "subClass") tag.pairs)) && all_white inside) Unsupported
   parts ← over dataset_step no_dataset_parts inside
   dataset_end w h parts
 

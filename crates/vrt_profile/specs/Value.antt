@@ -6,7 +6,7 @@ use Rattle.std.specs.Ordering.{int_eq}
 use Rattle.std.specs.Option.{option_or}
 use Rattle.lists_and_answers.specs.Options.{◌>>=◌}
 use Rattle.geotransform.specs.Places.{half}
-use Rattle.geotransform.specs.Types.{bytes_of, clamp}
+use Rattle.geotransform.specs.Types.{byte_count, clamp}
 use Rattle.geotransform.specs.declared.types.PixelType.{PixelType}
 use Rattle.geotransform.specs.declared.types.Size.{Size}
 use Rattle.vrt_profile.specs.Values.{million, trillion, SourceValue, BandValue}
@@ -52,7 +52,7 @@ is_plain s = not s.complex || (int_eq s.ratio (pos trillion) && (int_eq s.offset
 
 -- whether a source takes samples of a type: those that it scales, or has a table for, have at most 32 bits
 abbrev pub takes_kind : SourceValue → PixelType → Bool
-takes_kind s kind = is_plain s || nat_le (bytes_of kind) 4
+takes_kind s kind = is_plain s || nat_le (byte_count kind) 4
 
 -- what a source gives at a pixel of the mosaic, where the pixels of its dataset are these
 abbrev pub given_of : SourceValue → Size → Size → (ℕ → ℕ → ℤ) → ℕ → ℕ → Option ℤ

@@ -240,6 +240,7 @@ fn behind_sign(text: &[u8]) -> &[u8]
 
 /// What stands behind the comma behind a zero with an exponent of one to three digits, as in `0e999` or `0E-5`: a table
 /// of such zeros is read in one pass, too. `None` also where the text is short.
+#[inline(always)]
 pub fn zero_before(text: &[u8]) -> Option<&[u8]>
     ensures front { IfSome result (λ r. MicrosFront text.now (pos 0) (44 ∷ r.now)) }
     ensures shorter { IfSome result (λ r. length r.now < length text.now) }

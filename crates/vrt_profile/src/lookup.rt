@@ -1,17 +1,17 @@
 // Lookup tables.
-ghost use Rattle.std.specs.Prelude.{◌≡◌, ℕ, ◌<◌, ◌≤◌, ◌++◌, [], ◌∷◌, Ok, None, List, length, IfSome, true};
+ghost use Rattle.std.specs.Prelude.{◌≡◌, ℕ, ◌<◌, ◌≤◌, ◌++◌, [], ◌∷◌, Ok, None, Some, List, length, IfOk, IfSome, true};
 ghost use Rattle.std.specs.List.{list_all, prefix_len};
 ghost use Rattle.std.specs.Option.{option_map};
 ghost use Rattle.vrt_profile.specs.Fields.{pieces, first_piece, near_number, pair_of};
-ghost use Rattle.vrt_profile.specs.Numbers.{is_above, rising_pair, next_pair, lut_of};
+ghost use Rattle.vrt_profile.specs.Numbers.{is_above, rising_pair, next_pair, lut_behind, lut_of};
 ghost use Rattle.vrt_profile.specs.Fronts.{is_of_key, pair_with, MicrosFront};
-ghost use Rattle.vrt_markup.specs.Kept.{Gives};
+ghost use Rattle.vrt_markup.specs.Kept.{Gives, kept_of};
 
 use crate::fields::{cut_at, near_number};
 use crate::fronts::{key_front, short_pair, short_value, whole_before, zero_before};
 use crate::rectangle::{Lut, LutPair};
 use lists_and_answers::Items;
-use std::alloc::Global;
+use std::alloc::{AllocError, Global};
 use vrt_markup::VrtFault;
 
 /// The most pairs of a table.
@@ -167,19 +167,16 @@ fn any_pair_behind(input: i64, text: &[u8]) -> (Option<LutPair>, Option<&[u8]>)
     (pair_with(input, output), more)
 }
 
-// The whole number in front, or a zero with an exponent, and what stands behind the comma behind it. `None` also where
-// the text is short.
+// The zero with an exponent in front, or the whole number, and what stands behind the comma behind it. `None` also
+// where the text is short.
 #[inline(always)]
 fn whole_or_zero(text: &[u8]) -> Option<(i64, &[u8])>
     ensures front { IfSome result (λ x. MicrosFront text.now x.0 (44 ∷ x.1.now)) }
     ensures shorter { IfSome result (λ x. length x.1.now < length text.now) }
 {
-    match whole_before(text, b',') {
-        Some(value) => Some(value),
-        None => {
-            let behind = zero_before(text)?;
-            Some((0, behind))
-        }
+    match zero_before(text) {
+        Some(behind) => Some((0, behind)),
+        None => whole_before(text, b','),
     }
 }
 
@@ -210,12 +207,50 @@ fn pair_at(text: &[u8]) -> (Option<LutPair>, Option<&[u8]>)
     }
 }
 
-// The pairs of a table, or its first fault.
-fn pairs_of(alloc: Global, text: &[u8]) -> Result<Result<Items<LutPair>, VrtFault>, VrtFault>
-    ensures pairs { Gives (λ x. x) result (Ok (lut_of text.now)) }
+// The pair of two whole numbers in front, where a comma stands behind it, and what stands behind that comma.
+#[inline(always)]
+fn whole_pair(text: &[u8]) -> Option<(LutPair, &[u8])>
+    ensures pair { IfSome result (λ x. pair_of (first_piece text.now).0 ≡ Some x.0) }
+    ensures behind { IfSome result (λ x. Some x.1.now ≡ (first_piece text.now).1) }
+    ensures shorter { IfSome result (λ x. length x.1.now < length text.now) }
 {
-    let mut pairs = Items::new(alloc);
+    let (input, second) = whole_before(text, b':')?;
+    let (output, behind) = whole_or_zero(second)?;
+    Some((LutPair { input, output }, behind))
+}
+
+// Adds the pairs of whole numbers in front, each with a comma behind it, as long as they rise and there is room: the
+// last one of them, and what stands behind them.
+#[inline(never)]
+fn push_whole_pairs<'a>(
+    pairs: &mut Items<LutPair>,
+    text: &'a [u8],
+) -> Result<(Option<LutPair>, &'a [u8]), AllocError>
+    ensures left { IfOk result (λ x. lut_behind pairs.new x.0 x.1.now ≡ lut_behind pairs.old None text.now) }
+{
     let mut last = None;
+    let mut rest = text;
+    while let Some((found, behind)) = whole_pair(rest) {
+        let pair = match next_pair(pairs.len(), last, Some(found)) {
+            Ok(pair) => pair,
+            Err(_) => return Ok((last, rest)),
+        };
+        pairs.push(pair)?;
+        last = Some(pair);
+        rest = behind;
+    }
+    Ok((last, rest))
+}
+
+// Adds the pairs of a text behind the last one of those before them, or finds its first fault.
+fn push_pairs(
+    pairs: &mut Items<LutPair>,
+    before: Option<LutPair>,
+    text: &[u8],
+) -> Result<Result<(), VrtFault>, AllocError>
+    ensures pairs { IfOk result (λ k. kept_of pairs.new k ≡ lut_behind pairs.old before text.now) }
+{
+    let mut last = before;
     let mut rest = text;
     'pieces: loop {
         let (found, more) = pair_at(rest);
@@ -224,15 +259,40 @@ fn pairs_of(alloc: Global, text: &[u8]) -> Result<Result<Items<LutPair>, VrtFaul
             Err(fault) => return Ok(Err(fault)),
         };
         match pairs.push(pair) {
-            Err(_) => return Err(VrtFault::Memory),
+            Err(failed) => return Err(failed),
             Ok(()) => match more {
-                None => return Ok(Ok(pairs)),
+                None => return Ok(Ok(())),
                 Some(behind) => {
                     last = Some(pair);
                     rest = behind;
                 }
             },
         }
+    }
+}
+
+// The pairs, unless there is a fault.
+fn kept_pairs(kept: Result<(), VrtFault>, pairs: Items<LutPair>) -> Result<Items<LutPair>, VrtFault>
+    ensures kept { result ≡ kept_of pairs kept }
+{
+    match kept {
+        Ok(()) => Ok(pairs),
+        Err(fault) => Err(fault),
+    }
+}
+
+// The pairs of a table, or its first fault. Most tables begin with whole numbers, or have nothing else.
+#[tactic(auto, using(crate::proofs::Tables::whole_table))]
+fn pairs_of(alloc: Global, text: &[u8]) -> Result<Result<Items<LutPair>, VrtFault>, VrtFault>
+    ensures pairs { Gives (λ x. x) result (Ok (lut_of text.now)) }
+{
+    let mut pairs = Items::new(alloc);
+    match push_whole_pairs(&mut pairs, text) {
+        Err(_) => Err(VrtFault::Memory),
+        Ok((last, rest)) => match push_pairs(&mut pairs, last, rest) {
+            Err(_) => Err(VrtFault::Memory),
+            Ok(kept) => Ok(kept_pairs(kept, pairs)),
+        },
     }
 }
 

@@ -104,6 +104,7 @@ fn rect_by(
 }
 
 // What a SrcRect or a DstRect means.
+#[inline(never)]
 fn rect_element<'a>(
     alloc: Global,
     level: Level,
@@ -128,6 +129,7 @@ fn rect_element<'a>(
 }
 
 /// Puts a SrcRect or a DstRect in its place.
+#[inline(always)]
 pub fn rect_child<'a>(
     place: &mut Option<MicroRect>,
     alloc: Global,

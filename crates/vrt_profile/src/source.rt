@@ -364,22 +364,17 @@ fn ruled_lut(lut: Option<Lut>) -> Option<Lut>
     }
 }
 
-// What the source makes of its pixels: what stands in a ComplexSource.
+// What a ComplexSource makes of its pixels.
 fn scaling_of(
     alloc: Global,
-    complex: bool,
     nodata: Option<Option<NoData>>,
     offset: Option<Scale>,
     ratio: Option<Scale>,
     lut: Option<Lut>,
 ) -> Result<Scaling, AllocError>
-    ensures scaling { IfOk result (λ s. s ≡ scaling_of complex nodata offset ratio lut) }
+    ensures scaling { IfOk result (λ s. s ≡ scaling_of true nodata offset ratio lut) }
     ensures rules { IfOk result IsScaling }
-    ensures simple { complex ≡ false → IfOk result (λ s. s ≡ no_scaling) }
 {
-    if !complex {
-        return Ok(Scaling::none());
-    }
     let parts = ScalingParts {
         nodata: nodata_or_none(nodata),
         offset: scale_or(offset, 0),
@@ -387,6 +382,25 @@ fn scaling_of(
         lut: ruled_lut(lut),
     };
     Scaling::of(alloc, parts)
+}
+
+// What the source of these parts makes of its pixels: what stands in a ComplexSource. Its table leaves the parts.
+#[tactic(auto, using(crate::proofs::Rules::complex_scaling))]
+fn scaling_from(
+    alloc: Global,
+    complex: bool,
+    parts: &mut SourceParts,
+) -> Result<Scaling, AllocError>
+    ensures scaling { IfOk result
+        (λ s. s ≡ scaling_of complex parts.old.nodata parts.old.offset parts.old.ratio parts.old.lut) }
+    ensures rules { IfOk result IsScaling }
+    ensures simple { complex ≡ false → IfOk result (λ s. s ≡ no_scaling) }
+{
+    if !complex {
+        return Ok(Scaling::none());
+    }
+    let lut = parts.lut.take();
+    scaling_of(alloc, parts.nodata, parts.offset, parts.ratio, lut)
 }
 
 // Adds a source at the end.
@@ -419,16 +433,18 @@ fn push_source(
         return Ok(Err(VrtFault::MissingPart));
     }
     text_rules(&name);
-    let lut = parts.lut.take();
-    match scaling_of(alloc, complex, parts.nodata, parts.offset, parts.ratio, lut) {
+    let band = band_or_one(parts.band);
+    let src = ruled(parts.src);
+    let dst = ruled(parts.dst);
+    match scaling_from(alloc, complex, parts) {
         Ok(scaling) => push_ruled(
             Source {
                 complex,
                 relative,
                 file: name,
-                band: band_or_one(parts.band),
-                src: ruled(parts.src),
-                dst: ruled(parts.dst),
+                band,
+                src,
+                dst,
                 scaling,
             },
             sources,

@@ -58,6 +58,7 @@ fn in_folder(alloc: Global, folder: &str, text: &str) -> Result<String, AllocErr
 /// slash and the text; else that of the text alone. `TooLong` comes exactly where the text that is
 /// normalised passes 4,096 bytes (`resolved_len` tells how many it has), `Memory` where memory is
 /// refused, and `Empty` never.
+#[inline(always)]
 pub fn resolve(alloc: Global, base: &Name, source: &Source) -> Result<Name, NameFault>
     ensures ok { IfOk result (λ name. name ≡ normal (resolved_text base.now source.now)) }
     ensures valid { IfOk result IsName }

@@ -100,12 +100,12 @@ name_again name rest c is e =
     ∙ ap (λ (x : List ℕ). Some (name, x)) (drop_at name (c ∷ rest) (length name) refl)
 
 -- an end tag
-abbrev closed : Option (List ℕ × List ℕ) → Item
-closed o = option_case {A = List ℕ × List ℕ} (o >>= λ n. byte_at 62 (trim_front n.1) >>= λ e. Some (n.0, e)) bad (λ t. close_tag t.0 t.1)
+abbrev end_tag_of : Option (List ℕ × List ℕ) → Item
+end_tag_of o = option_case {A = List ℕ × List ℕ} (o >>= λ n. byte_at 62 (trim_front n.1) >>= λ e. Some (n.0, e)) bad (λ t. close_tag t.0 t.1)
 
 pub end_again : (name r : List ℕ) → IsTagName name → item_at (60 ∷ 47 ∷ name ++ 62 ∷ r) ≡ close_tag name r
 unfolding item_at close_at
-end_again name r is = ap closed (name_again name r 62 is refl)
+end_again name r is = ap end_tag_of (name_again name r 62 is refl)
 
 -- a written text begins with no `<`
 pub record BeginsOther (t : List ℕ) : Type 0 where

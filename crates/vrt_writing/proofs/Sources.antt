@@ -24,13 +24,13 @@ use Rattle.vrt_writing.proofs.Places.{micro_again, part_again, count_again}
 use Rattle.vrt_writing.proofs.Figures.{AreFigures, AreMarks, micro_figures, part_figures, decimal_figures, signed_figures, figures_marks, escaped_same, figures_value, trim_same}
 use Rattle.vrt_writing.proofs.Relisted.{lut_again, lut_marks}
 use Rattle.vrt_writing.proofs.Openings.{IsOpening, tag_of}
-use Rattle.vrt_writing.proofs.Taken.{Step, Takes, takes_nothing, takes_both, takes_words, takes_empty}
+use Rattle.vrt_writing.proofs.Taken.{ElementStep, Takes, takes_nothing, takes_both, takes_words, takes_empty}
 
-pub takes_to : {S : Type 0} (step : Step S) (level : ℕ) (m : Markup) (kept now then : Result S VrtFault) → Takes step level m kept now → now ≡ then → Takes step level m kept then
+pub takes_to : {S : Type 0} (step : ElementStep S) (level : ℕ) (m : Markup) (kept now then : Result S VrtFault) → Takes step level m kept now → now ≡ then → Takes step level m kept then
 takes_to step level m kept now then p e = subst (Takes step level m kept) e p
 
 -- an element whose text needs no entities
-pub takes_marks : {S : Type 0} (step : Step S) (level : ℕ) (name : List ℕ) (ps : List Pair) (t : List ℕ) (kept : Result S VrtFault) (k : List ℕ × Option ℕ → Result S VrtFault) → level < 64 → IsOpening name ps → AreMarks t → ((place : ℕ) (f : Forest) → k (text_of f, child_of f) ≡ stepped step kept place (tag_of name ps false) f) → Takes step level (words name ps t) kept (k (t, None))
+pub takes_marks : {S : Type 0} (step : ElementStep S) (level : ℕ) (name : List ℕ) (ps : List Pair) (t : List ℕ) (kept : Result S VrtFault) (k : List ℕ × Option ℕ → Result S VrtFault) → level < 64 → IsOpening name ps → AreMarks t → ((place : ℕ) (f : Forest) → k (text_of f, child_of f) ≡ stepped step kept place (tag_of name ps false) f) → Takes step level (words name ps t) kept (k (t, None))
 takes_marks step level name ps t kept k less is marks same = subst (λ (x : List ℕ). Takes step level (words name ps x) kept (k (t, None))) (escaped_same t marks) (takes_words step level name ps t kept k less is same)
 
 -- what an element's text means, judged first, then a child of it

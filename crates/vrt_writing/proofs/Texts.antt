@@ -7,14 +7,14 @@ use Rattle.std.proofs.lemmas.List.{take_all}
 use Rattle.std.proofs.lemmas.Str.{IsUtf8-drop, IsUtf8-nil, IsCharBoundary-after_ascii, IsUtf8-past_char, IsUtf8-from_is_utf8}
 use Rattle.std.proofs.lemmas.Bool.Decides.{nat_tests}
 use Rattle.vrt_markup.specs.Items.{strip, begins, option_case, Item, bad, comment, run, open_tag, close_tag, Tag, item_at}
-use Rattle.vrt_markup.specs.Forest.{Forest, stop, text, element, nodes, inner, is_blank, text_of}
+use Rattle.vrt_markup.specs.Forest.{Forest, stop, text, element, nodes, inner, is_all_white, text_of}
 use Rattle.vrt_markup.specs.Tree.{space_step, space_by, space, utf8_of, without_mark, after_declaration, declared_at, Root, root_item, root_at, end_at, Tree, markup_of, tree_of}
 use Rattle.vrt_writing.specs.Texts.{AreTexts}
 use Rattle.vrt_markup.specs.declared.fault.VrtFault.{VrtFault}
 use Rattle.vrt_markup.specs.declared.fault.VrtFault.TheVariants.{BadText}
 use Rattle.vrt_markup.proofs.Next.{bind_ok}
 use Rattle.vrt_profile.proofs.Tables.{ok_same, cond_err}
-use Rattle.vrt_writing.proofs.Whole.{both_true, strip_utf8, Ends, IsWhole, item_utf8, AllWhole, ReadsWhole, Keeps, inner_read, nodes_whole, text_utf8}
+use Rattle.vrt_writing.proofs.Whole.{both_true, strip_utf8, Ends, IsUtf8Behind, item_utf8, AllWhole, ReadsWhole, Keeps, inner_read, nodes_whole, text_utf8}
 
 -- a file that is UTF-8
 valid_le : (bytes : List ℕ) (n : ℕ) → valid_len_up_to bytes n ≤ n
@@ -107,10 +107,10 @@ blank_case : (b : Bool) (place : ℕ) (more : Result (List ℕ) VrtFault) (r : L
 blank_case true place more r h = h
 blank_case false place more r h = absurd cc
 
-step_utf8 : (more : List ℕ → Result (List ℕ) VrtFault) (total : ℕ) (bytes r : List ℕ) (item : Item) → IsWhole item → IsUtf8 bytes → ((x : List ℕ) → more x ≡ Ok r → IsUtf8 x → IsUtf8 r) → space_step more total bytes item ≡ Ok r → IsUtf8 r
+step_utf8 : (more : List ℕ → Result (List ℕ) VrtFault) (total : ℕ) (bytes r : List ℕ) (item : Item) → IsUtf8Behind item → IsUtf8 bytes → ((x : List ℕ) → more x ≡ Ok r → IsUtf8 x → IsUtf8 r) → space_step more total bytes item ≡ Ok r → IsUtf8 r
 step_utf8 more total bytes r bad w u ih h = subst IsUtf8 (ok_same bytes r h) u
 step_utf8 more total bytes r (comment rest) w u ih h = ih rest h w
-step_utf8 more total bytes r (run raw rest) w u ih h = ih rest (blank_case (is_blank raw) (total - length bytes) (more rest) r h) w.1
+step_utf8 more total bytes r (run raw rest) w u ih h = ih rest (blank_case (is_all_white raw) (total - length bytes) (more rest) r h) w.1
 step_utf8 more total bytes r (open_tag tag rest) w u ih h = subst IsUtf8 (ok_same bytes r h) u
 step_utf8 more total bytes r (close_tag name rest) w u ih h = subst IsUtf8 (ok_same bytes r h) u
 
@@ -119,7 +119,7 @@ space_utf8 zero total bytes r h u = subst IsUtf8 (ok_same bytes r h) u
 space_utf8 (suc fuel) total bytes r h u = step_utf8 (λ x. space_by fuel total x) total bytes r (item_at bytes) (item_utf8 bytes u) u (λ x e v. space_utf8 fuel total x r e v) h
 
 -- what stands behind the root's tag
-item_case : (total : ℕ) (bytes : List ℕ) (root : Root) (item : Item) → IsWhole item → root_item total bytes item ≡ Ok root → IsUtf8 root.rest
+item_case : (total : ℕ) (bytes : List ℕ) (root : Root) (item : Item) → IsUtf8Behind item → root_item total bytes item ≡ Ok root → IsUtf8 root.rest
 item_case total bytes root bad w h = absurd cc
 item_case total bytes root (comment rest) w h = absurd cc
 item_case total bytes root (run raw rest) w h = absurd cc

@@ -197,42 +197,42 @@ comment_utf8 t r e h =
     subst IsUtf8 (ap (λ n. drop n t) one ∙ x.3) (IsUtf8-drop t (x.0 + 1) h (IsCharBoundary-after_ascii t x.0 h x.1 (omega (arith, x.2))))
 
 -- What stands behind an item is UTF-8, and so is a run.
-abbrev pub IsWhole : Item → Type 0
-IsWhole bad = Unit {0}
-IsWhole (comment rest) = IsUtf8 rest
-IsWhole (run front rest) = IsUtf8 front × IsUtf8 rest
-IsWhole (open_tag tag rest) = IsUtf8 rest
-IsWhole (close_tag name rest) = IsUtf8 rest
+abbrev pub IsUtf8Behind : Item → Type 0
+IsUtf8Behind bad = Unit {0}
+IsUtf8Behind (comment rest) = IsUtf8 rest
+IsUtf8Behind (run front rest) = IsUtf8 front × IsUtf8 rest
+IsUtf8Behind (open_tag tag rest) = IsUtf8 rest
+IsUtf8Behind (close_tag name rest) = IsUtf8 rest
 
-run_by : (b : Bool) (t : List ℕ) → IsUtf8 t → IsWhole (cond b bad (run (take (plain_len 60 t) t) (drop (plain_len 60 t) t)))
+run_by : (b : Bool) (t : List ℕ) → IsUtf8 t → IsUtf8Behind (cond b bad (run (take (plain_len 60 t) t) (drop (plain_len 60 t) t)))
 run_by true t h = tt
 run_by false t h = run_utf8 t h
 
-comment_item : (r : List ℕ) (o : Option (List ℕ)) → after_comment r ≡ o → IsUtf8 r → IsWhole (option_case o bad comment)
+comment_item : (r : List ℕ) (o : Option (List ℕ)) → after_comment r ≡ o → IsUtf8 r → IsUtf8Behind (option_case o bad comment)
 comment_item r None e h = tt
 comment_item r (Some x) e h = comment_utf8 r x e h
 
-close_item : (r : List ℕ) (o : Option (List ℕ × List ℕ)) → close_at r ≡ o → IsUtf8 r → IsWhole (option_case o bad (λ x. close_tag x.0 x.1))
+close_item : (r : List ℕ) (o : Option (List ℕ × List ℕ)) → close_at r ≡ o → IsUtf8 r → IsUtf8Behind (option_case o bad (λ x. close_tag x.0 x.1))
 close_item r None e h = tt
 close_item r (Some x) e h = close_utf8 r x e h
 
-tag_item : (r : List ℕ) (o : Option (Tag × List ℕ)) → tag_at r ≡ o → IsUtf8 r → IsWhole (option_case o bad (λ x. open_tag x.0 x.1))
+tag_item : (r : List ℕ) (o : Option (Tag × List ℕ)) → tag_at r ≡ o → IsUtf8 r → IsUtf8Behind (option_case o bad (λ x. open_tag x.0 x.1))
 tag_item r None e h = tt
 tag_item r (Some x) e h = tag_utf8 r x e h
 
-third : (t : List ℕ) (o : Option (List ℕ)) → byte_at 60 t ≡ o → IsUtf8 t → IsWhole (option_case o (run_at t) (λ rest. option_case (tag_at rest) bad (λ x. open_tag x.0 x.1)))
+third : (t : List ℕ) (o : Option (List ℕ)) → byte_at 60 t ≡ o → IsUtf8 t → IsUtf8Behind (option_case o (run_at t) (λ rest. option_case (tag_at rest) bad (λ x. open_tag x.0 x.1)))
 third t None e h = run_by (plain_len 60 t == 0) t h
 third t (Some r) e h = tag_item r (tag_at r) refl (byte_utf8 60 t r e (omega arith) h)
 
-second : (t : List ℕ) (o : Option (List ℕ)) → strip (60 ∷ 47 ∷ []) t ≡ o → IsUtf8 t → IsWhole (option_case o (option_case (byte_at 60 t) (run_at t) (λ rest. option_case (tag_at rest) bad (λ x. open_tag x.0 x.1))) (λ rest. option_case (close_at rest) bad (λ x. close_tag x.0 x.1)))
+second : (t : List ℕ) (o : Option (List ℕ)) → strip (60 ∷ 47 ∷ []) t ≡ o → IsUtf8 t → IsUtf8Behind (option_case o (option_case (byte_at 60 t) (run_at t) (λ rest. option_case (tag_at rest) bad (λ x. open_tag x.0 x.1))) (λ rest. option_case (close_at rest) bad (λ x. close_tag x.0 x.1)))
 second t None e h = third t (byte_at 60 t) refl h
 second t (Some r) e h = close_item r (close_at r) refl (strip_utf8 (60 ∷ 47 ∷ []) t r e (omega arith, (omega arith, tt)) h)
 
-first : (t : List ℕ) (o : Option (List ℕ)) → strip (60 ∷ 33 ∷ 45 ∷ 45 ∷ []) t ≡ o → IsUtf8 t → IsWhole (option_case o (option_case (strip (60 ∷ 47 ∷ []) t) (option_case (byte_at 60 t) (run_at t) (λ rest. option_case (tag_at rest) bad (λ x. open_tag x.0 x.1))) (λ rest. option_case (close_at rest) bad (λ x. close_tag x.0 x.1))) (λ rest. option_case (after_comment rest) bad comment))
+first : (t : List ℕ) (o : Option (List ℕ)) → strip (60 ∷ 33 ∷ 45 ∷ 45 ∷ []) t ≡ o → IsUtf8 t → IsUtf8Behind (option_case o (option_case (strip (60 ∷ 47 ∷ []) t) (option_case (byte_at 60 t) (run_at t) (λ rest. option_case (tag_at rest) bad (λ x. open_tag x.0 x.1))) (λ rest. option_case (close_at rest) bad (λ x. close_tag x.0 x.1))) (λ rest. option_case (after_comment rest) bad comment))
 first t None e h = second t (strip (60 ∷ 47 ∷ []) t) refl h
 first t (Some r) e h = comment_item r (after_comment r) refl (strip_utf8 (60 ∷ 33 ∷ 45 ∷ 45 ∷ []) t r e (omega arith, (omega arith, (omega arith, (omega arith, tt)))) h)
 
-pub item_utf8 : (t : List ℕ) → IsUtf8 t → IsWhole (item_at t)
+pub item_utf8 : (t : List ℕ) → IsUtf8 t → IsUtf8Behind (item_at t)
 unfolding item_at
 item_utf8 t h = first t (strip (60 ∷ 33 ∷ 45 ∷ 45 ∷ []) t) refl h
 
@@ -273,7 +273,7 @@ last_read : (b : Bool) (place : ℕ) (rest : List ℕ) → IsUtf8 rest → Reads
 last_read true place rest h = (tt, h)
 last_read false place rest h = tt
 
-step_read : (more : ℕ → List ℕ → List ℕ → Read) (total depth : ℕ) (name bytes : List ℕ) (item : Item) → Keeps more → IsWhole item → ReadsWhole (nodes_step more total depth name bytes item)
+step_read : (more : ℕ → List ℕ → List ℕ → Read) (total depth : ℕ) (name bytes : List ℕ) (item : Item) → Keeps more → IsUtf8Behind item → ReadsWhole (nodes_step more total depth name bytes item)
 step_read more total depth name bytes bad keeps h = tt
 step_read more total depth name bytes (comment rest) keeps h = keeps depth name rest h
 step_read more total depth name bytes (run raw rest) keeps h = run_read raw (more depth name rest) h.0 (keeps depth name rest h.1)
@@ -290,14 +290,14 @@ skips (suc k) [] = refl
 skips (suc k) (c ∷ cs) = skips k cs
 
 -- a byte that is plain text, and how many bytes behind it belong to it
-abbrev pub IsPlain : List ℕ → ℕ × ℕ → Type 0
-IsPlain cs x = (x.0 < 128) × IsUtf8 (drop x.1 cs)
+abbrev pub IsPlainByte : List ℕ → ℕ × ℕ → Type 0
+IsPlainByte cs x = (x.0 < 128) × IsUtf8 (drop x.1 cs)
 
-entity_case : (front cs : List ℕ) (b : ℕ) (o : Option (ℕ × ℕ)) (x : ℕ × ℕ) (t : Bool) → begins front cs ≡ t → b < 128 → AllAscii front → IsUtf8 cs → (o ≡ Some x → IsPlain cs x) → cond t (Some (b, length front)) o ≡ Some x → IsPlain cs x
-entity_case front cs b o x true e less a h more some = let same : (b, length front) ≡ x = cc in subst (IsPlain cs) same (less, begins_utf8 front cs e a h)
+entity_case : (front cs : List ℕ) (b : ℕ) (o : Option (ℕ × ℕ)) (x : ℕ × ℕ) (t : Bool) → begins front cs ≡ t → b < 128 → AllAscii front → IsUtf8 cs → (o ≡ Some x → IsPlainByte cs x) → cond t (Some (b, length front)) o ≡ Some x → IsPlainByte cs x
+entity_case front cs b o x true e less a h more some = let same : (b, length front) ≡ x = cc in subst (IsPlainByte cs) same (less, begins_utf8 front cs e a h)
 entity_case front cs b o x false e less a h more some = more some
 
-entity_utf8 : (cs : List ℕ) (x : ℕ × ℕ) → entity_at cs ≡ Some x → IsUtf8 cs → IsPlain cs x
+entity_utf8 : (cs : List ℕ) (x : ℕ × ℕ) → entity_at cs ≡ Some x → IsUtf8 cs → IsPlainByte cs x
 entity_utf8 cs x e h =
     entity_case (108 ∷ 116 ∷ 59 ∷ []) cs 60 _ x _ refl (omega arith) (omega arith, (omega arith, (omega arith, tt))) h
     (entity_case (103 ∷ 116 ∷ 59 ∷ []) cs 62 _ x _ refl (omega arith) (omega arith, (omega arith, (omega arith, tt))) h
@@ -306,11 +306,11 @@ entity_utf8 cs x e h =
     (entity_case (97 ∷ 112 ∷ 111 ∷ 115 ∷ 59 ∷ []) cs 39 None x _ refl (omega arith) (omega arith, (omega arith, (omega arith, (omega arith, (omega arith, tt))))) h
     (λ none. absurd cc))))) e
 
-and_case : (c : ℕ) (cs : List ℕ) (o : Option (ℕ × ℕ)) → entity_at cs ≡ o → c < 128 → IsUtf8 cs → IsPlain cs (option_case o (c, 0) (λ e. e))
+and_case : (c : ℕ) (cs : List ℕ) (o : Option (ℕ × ℕ)) → entity_at cs ≡ o → c < 128 → IsUtf8 cs → IsPlainByte cs (option_case o (c, 0) (λ e. e))
 and_case c cs None e less h = (less, h)
 and_case c cs (Some x) e less h = entity_utf8 cs x e h
 
-plain_case : (c : ℕ) (cs : List ℕ) (b : Bool) → c < 128 → IsUtf8 cs → IsPlain cs (cond b (option_case (entity_at cs) (c, 0) (λ e. e)) (c, 0))
+plain_case : (c : ℕ) (cs : List ℕ) (b : Bool) → c < 128 → IsUtf8 cs → IsPlainByte cs (cond b (option_case (entity_at cs) (c, 0) (λ e. e)) (c, 0))
 plain_case c cs true less h = and_case c cs (entity_at cs) refl less h
 plain_case c cs false less h = (less, h)
 

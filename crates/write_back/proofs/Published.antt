@@ -7,9 +7,9 @@ use Rattle.outside.specs.Names.{header_of}
 use Rattle.block_cache.specs.Entries.{PoolView}
 use Rattle.write_back.specs.declared.fault.CloseFault.{CloseFault}
 use Rattle.write_back.specs.declared.forms.Writer.{Writer}
-use Rattle.write_back.specs.Forms.{band_total, block_of, cut_of, plane_of, seen, spot_of, IsMet}
+use Rattle.write_back.specs.Forms.{band_total, block_of, cut_of, plane_of, pixel_sample, spot_of, TellsMet}
 use Rattle.write_back.proofs.Woven.{spot_is}
-use Rattle.write_back.specs.View.{Blocks, seen_in, shown_on}
+use Rattle.write_back.specs.View.{Blocks, pixel_sample_in, shown_on}
 use Rattle.write_back.specs.Files.{HasSamples, HasHeader, ArePut, IsHeaderPut, files_with, header_file, header_state, published_by, published_of, with_files}
 use Rattle.write_back.specs.Overlay.{overlay, AreSame, Stays, WasMet}
 use Rattle.write_back.specs.State.{HasDraft}
@@ -56,7 +56,7 @@ same_count bytes name None (Some text) told a b (Ok x) has = absurd (let clash :
 same_count bytes name (Some d) None told a b (Ok x) has = absurd (let clash : Some (bytes d, name d) ≡ None = has in cc)
 same_count bytes name header text told a b (Err e) has = refl
 
-empty_met : (w : Writer) (c : List ℕ) (k v : ℕ) → WasMet w [] c k v → IsMet w c v
+empty_met : (w : Writer) (c : List ℕ) (k v : ℕ) → WasMet w [] c k v → TellsMet w c v
 empty_met w c k v (inl met) = met
 empty_met w c k v (inr held) = absurd (let clash : None ≡ Some held.0 = held.1 in cc)
 
@@ -66,8 +66,8 @@ flushed_samples w p q draft now b c told has none same stays = record {
   len = has.long;
   formed = has.formed;
   each = λ k x y place.
-      sym (ap (λ es. seen w (overlay w es c) k x y) none)
+      sym (ap (λ es. pixel_sample w (overlay w es c) k x y) none)
       ∙ same (plane_of (cut_of w).woven k) (spot_of (cut_of w).by_columns (cut_of w).woven (band_total w) k x y) (block_of (cut_of w).by_columns x y) (spot_is w k x y place)
-      ∙ ap (λ d. seen_in w p d k x y) (sym told);
+      ∙ ap (λ d. pixel_sample_in w p d k x y) (sym told);
   begun = λ k v band block met. empty_met w c k v (subst (λ es. WasMet w es c k v) none (stays k v band block met));
 }

@@ -8,10 +8,10 @@ use Rattle.outside.specs.Outside.{Files}
 use Rattle.block_cache.specs.Entries.{PoolView, pool_view}
 use Rattle.write_back.specs.declared.forms.Writer.{Writer}
 use Rattle.write_back.specs.declared.forms.Writer.TheVariants.{Raw, Hgt, Dted}
-use Rattle.write_back.specs.Forms.{band_total, cut_of, seen, HasPixel, most_calls}
+use Rattle.write_back.specs.Forms.{band_total, cut_of, pixel_sample, HasPixel, most_calls}
 use Rattle.write_back.specs.Overlay.{overlay, AreSame, IsOverlaid, IsWindow, Stays, WasMet}
 use Rattle.write_back.specs.State.{StoreState, AreMet, Changes, HasDraft, IsRight, IsSound, Serves, lines_met}
-use Rattle.write_back.specs.View.{Output, Blocks, Rows, SheetView, all_blocks, calls_of, columns_of, is_writable, shown_on, seen_in, AreWritable, Finishes, IsIn, IsMetOn, IsNext, Keeps, Meets, Puts}
+use Rattle.write_back.specs.View.{Output, Blocks, Rows, SheetView, all_blocks, calls_of, columns_of, is_writable, shown_on, pixel_sample_in, AreWritable, Finishes, IsIn, IsMetOn, IsNext, Keeps, Meets, Puts}
 use Rattle.write_back.specs.Files.{block_bytes, grid_text, HasBytes, HasSamples, IsBlockForm, IsWholeOn}
 use Rattle.write_back.proofs.Data.{data_is}
 use Rattle.write_back.proofs.Exact.{tile_is, cell_is}
@@ -49,9 +49,9 @@ module _ (w : Writer) where
       let m = told_by s.told some in
       let has = right.holds m.0 m.1 in
       let now = changed.told has.0 has.1 in
-      subst (λ d. IsOverlaid (IsIn (Blocks w)) band rect samples (seen_in w s.pool d) (seen_in w t.pool t.draft)) (sym has.1.is)
-      (subst (λ d. IsOverlaid (IsIn (Blocks w)) band rect samples (seen_in w s.pool (Some has.0)) (seen_in w t.pool d)) (sym now.1.is)
-      (window_in w band rect samples (seen w (overlay w s.pool.entries has.0)) (seen w (overlay w t.pool.entries now.0)) now.2))
+      subst (λ d. IsOverlaid (IsIn (Blocks w)) band rect samples (pixel_sample_in w s.pool d) (pixel_sample_in w t.pool t.draft)) (sym has.1.is)
+      (subst (λ d. IsOverlaid (IsIn (Blocks w)) band rect samples (pixel_sample_in w s.pool (Some has.0)) (pixel_sample_in w t.pool d)) (sym now.1.is)
+      (window_in w band rect samples (pixel_sample w (overlay w s.pool.entries has.0)) (pixel_sample w (overlay w t.pool.entries now.0)) now.2))
 
   -- the columns that are met after a window
   column_stays : (P : (ℕ → ℕ → ℕ → ℤ) → (ℕ → ℕ → ℕ → ℤ) → Type 0) (s t : StoreState) → IsRight w s.told s.len s.draft s.pool → Changes w P s t → IsSome s.told → 0 < (cut_of w).bands

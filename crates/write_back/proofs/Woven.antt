@@ -10,9 +10,9 @@ use Rattle.interleaved_raw.proofs.Apart.{apart}
 use Rattle.interleaved_raw.proofs.Order.{further, ends_within}
 use Rattle.write_back.specs.declared.forms.Writer.{Writer}
 use Rattle.write_back.specs.declared.forms.Writer.TheVariants.{Raw, Hgt, Dted}
-use Rattle.write_back.specs.Forms.{band_total, block_of, cut_of, height_of, lane_of, plane_of, seen, seen_by, spot_of, under, width_of, HasPixel, IsSpot}
+use Rattle.write_back.specs.Forms.{band_total, block_of, cut_of, line_total, band_places_of, plane_of, pixel_sample, pixel_sample_by, spot_of, under, column_total, HasPixel, IsSpot}
 use Rattle.write_back.specs.Overlay.{line_rect, IsOverlaid, IsPut, IsWindow}
-use Rattle.write_back.specs.Pieces.{is_woven, lane_in, planes_by, planes_of, spot_place, spots_by, spots_of, IsLineSpot}
+use Rattle.write_back.specs.Pieces.{is_woven, band_places_by, planes_by, planes_of, spot_place, spots_by, spots_of, IsLineSpot}
 
 -- the band and the column of a sample of a line
 abbrev band_back : Layout → ℕ → ℕ → ℕ → ℕ
@@ -79,7 +79,7 @@ seen_place Bil h k x y = from_first Bil h k x y refl
 seen_place Bip h k x y = ap (λ m. m + (x * h.bands + k) * sample_len h.kind) (first_of h.skip y h.total_row h.bands (sample_len h.kind))
 seen_place Bsq h k x y = from_first Bsq h k x y refl
 
-pub seen_sample : (h : Head) (b : List ℕ) (k x y : ℕ) → seen (Raw h) (under (Raw h) b) k x y ≡ raw_at h b k x y
+pub seen_sample : (h : Head) (b : List ℕ) (k x y : ℕ) → pixel_sample (Raw h) (under (Raw h) b) k x y ≡ raw_at h b k x y
 seen_sample h b k x y = ap (λ p. sample_at h (drop p b)) (seen_place h.layout h k x y)
 
 -- a pixel stands in a block
@@ -103,40 +103,40 @@ spot_is (Hgt side) k x y is = record { band = is.band; spot = is.column; block =
 spot_is (Dted c) k x y is = record { band = is.band; spot = is.line; block = is.column }
 
 -- the pixels of a band from a column on stand in a line
-raw_lane : (l : Layout) (width bands band x n i : ℕ) → band < bands → x + n ≤ width → i < n → (lane_in (is_woven l) bands band x).start + i * (lane_in (is_woven l) bands band x).stride < spots_by l width bands
-raw_lane Bil width bands band x n i less within below = (let r : x + i * 1 < width = omega arith in r)
-raw_lane Bip width bands band x n i less within below =
+raw_places : (l : Layout) (width bands band x n i : ℕ) → band < bands → x + n ≤ width → i < n → (band_places_by (is_woven l) bands band x).start + i * (band_places_by (is_woven l) bands band x).stride < spots_by l width bands
+raw_places Bil width bands band x n i less within below = (let r : x + i * 1 < width = omega arith in r)
+raw_places Bip width bands band x n i less within below =
     let more : suc (x + i) * bands ≤ width * bands = mul-le-mul_right bands (omega arith) in
     let e : suc (x + i) * bands ≡ x * bands + i * bands + bands = grind arith in
     let r : x * bands + band + i * bands < width * bands = omega arith in
     r
-raw_lane Bsq width bands band x n i less within below = (let r : x + i * 1 < width = omega arith in r)
+raw_places Bsq width bands band x n i less within below = (let r : x + i * 1 < width = omega arith in r)
 
-pub lane_room : (w : Writer) (band x n : ℕ) → (cut_of w).by_columns ≡ false → band < band_total w → x + n ≤ width_of w → (i : ℕ) → i < n → (lane_of w band x).start + i * (lane_of w band x).stride < (cut_of w).spots
-lane_room (Raw h) band x n lines less within i below = raw_lane h.layout h.size.w h.bands band x n i less within below
-lane_room (Hgt side) band x n lines less within i below = (let r : x + i * 1 < side = omega arith in r)
-lane_room (Dted c) band x n lines less within i below = absurd (let clash : true ≡ false = lines in cc)
+pub places_room : (w : Writer) (band x n : ℕ) → (cut_of w).by_columns ≡ false → band < band_total w → x + n ≤ column_total w → (i : ℕ) → i < n → (band_places_of w band x).start + i * (band_places_of w band x).stride < (cut_of w).spots
+places_room (Raw h) band x n lines less within i below = raw_places h.layout h.size.w h.bands band x n i less within below
+places_room (Hgt side) band x n lines less within i below = (let r : x + i * 1 < side = omega arith in r)
+places_room (Dted c) band x n lines less within i below = absurd (let clash : true ≡ false = lines in cc)
 
-raw_band : (l : Layout) (bands band x : ℕ) → band < bands → (lane_in (is_woven l) bands band x).band < planes_by l bands
+raw_band : (l : Layout) (bands band x : ℕ) → band < bands → (band_places_by (is_woven l) bands band x).band < planes_by l bands
 raw_band Bil bands band x less = less
 raw_band Bip bands band x less = (let one : 0 < 1 = omega arith in one)
 raw_band Bsq bands band x less = less
 
-pub lane_band : (w : Writer) (band x : ℕ) → band < band_total w → (lane_of w band x).band < (cut_of w).bands
-lane_band (Raw h) band x less = raw_band h.layout h.bands band x less
-lane_band (Hgt side) band x less = less
-lane_band (Dted c) band x less = less
+pub places_band : (w : Writer) (band x : ℕ) → band < band_total w → (band_places_of w band x).band < (cut_of w).bands
+places_band (Raw h) band x less = raw_band h.layout h.bands band x less
+places_band (Hgt side) band x less = less
+places_band (Dted c) band x less = less
 
-lane_by : (woven : Bool) (bands band x : ℕ) → band < bands → 0 < (lane_in woven bands band x).stride
-lane_by true bands band x less = (let r : 0 < bands = omega arith in r)
-lane_by false bands band x less = (let one : 0 < 1 = omega arith in one)
+places_by : (woven : Bool) (bands band x : ℕ) → band < bands → 0 < (band_places_by woven bands band x).stride
+places_by true bands band x less = (let r : 0 < bands = omega arith in r)
+places_by false bands band x less = (let one : 0 < 1 = omega arith in one)
 
-pub lane_some : (w : Writer) (band x : ℕ) → band < band_total w → 0 < (lane_of w band x).stride
-lane_some w band x less = lane_by (cut_of w).woven (band_total w) band x less
+pub places_some : (w : Writer) (band x : ℕ) → band < band_total w → 0 < (band_places_of w band x).stride
+places_some w band x less = places_by (cut_of w).woven (band_total w) band x less
 
 -- a run of a band's pixels is a window of one line
 woven_put : (w : Writer) (woven : Bool) (bands band x y : ℕ) (line : List ℤ) (old new : ℕ → ℕ → ℕ → ℤ) → ((k a b : ℕ) → HasPixel w k a b → IsSpot w (plane_of woven k) (spot_of false woven bands k a b) b) → ((k a b : ℕ) → HasPixel w k a b → k < bands) → band < bands
-    → IsPut w (lane_in woven bands band x) y line old new → IsOverlaid (HasPixel w) band (line_rect x y (length line)) line (seen_by false woven bands old) (seen_by false woven bands new)
+    → IsPut w (band_places_by woven bands band x) y line old new → IsOverlaid (HasPixel w) band (line_rect x y (length line)) line (pixel_sample_by false woven bands old) (pixel_sample_by false woven bands new)
 woven_put w false bands band x y line old new spot within has_band put = record {
   inside = λ u v less one.
       let e : v ≡ 0 = omega arith in
@@ -164,21 +164,21 @@ woven_put w true bands band x y line old new spot within has_band put = record {
       apart_from (record { band_is = band_same; left = omega arith; right = omega arith; top = omega arith; bottom = omega arith }));
 }
 
-pub lane_put : (w : Writer) (band x y : ℕ) (line : List ℤ) (old new : ℕ → ℕ → ℕ → ℤ) → (cut_of w).by_columns ≡ false → band < band_total w → IsPut w (lane_of w band x) y line old new → IsWindow w band (line_rect x y (length line)) line old new
-lane_put (Raw h) band x y line old new lines less put = woven_put (Raw h) (is_woven h.layout) h.bands band x y line old new (λ k a b place. spot_is (Raw h) k a b place) (λ k a b place. place.band) less put
-lane_put (Hgt side) band x y line old new lines less put = woven_put (Hgt side) false 1 band x y line old new (λ k a b place. spot_is (Hgt side) k a b place) (λ k a b place. place.band) less put
-lane_put (Dted c) band x y line old new lines less put = absurd (let clash : true ≡ false = lines in cc)
+pub places_put : (w : Writer) (band x y : ℕ) (line : List ℤ) (old new : ℕ → ℕ → ℕ → ℤ) → (cut_of w).by_columns ≡ false → band < band_total w → IsPut w (band_places_of w band x) y line old new → IsWindow w band (line_rect x y (length line)) line old new
+places_put (Raw h) band x y line old new lines less put = woven_put (Raw h) (is_woven h.layout) h.bands band x y line old new (λ k a b place. spot_is (Raw h) k a b place) (λ k a b place. place.band) less put
+places_put (Hgt side) band x y line old new lines less put = woven_put (Hgt side) false 1 band x y line old new (λ k a b place. spot_is (Hgt side) k a b place) (λ k a b place. place.band) less put
+places_put (Dted c) band x y line old new lines less put = absurd (let clash : true ≡ false = lines in cc)
 
 -- the blocks of a cut of lines are the lines, and those of columns the columns
-pub lines_cut : (w : Writer) → (cut_of w).by_columns ≡ false → (cut_of w).blocks ≡ height_of w
+pub lines_cut : (w : Writer) → (cut_of w).by_columns ≡ false → (cut_of w).blocks ≡ line_total w
 lines_cut (Raw h) lines = refl
 lines_cut (Hgt side) lines = refl
 lines_cut (Dted c) lines = absurd (let clash : true ≡ false = lines in cc)
 
 pub record AreColumnsCut (w : Writer) : Type 0 where
   pub bands : (cut_of w).bands ≡ band_total w
-  pub blocks : (cut_of w).blocks ≡ width_of w
-  pub spots : (cut_of w).spots ≡ height_of w
+  pub blocks : (cut_of w).blocks ≡ column_total w
+  pub spots : (cut_of w).spots ≡ line_total w
 
 pub columns_cut : (w : Writer) → (cut_of w).by_columns ≡ true → AreColumnsCut w
 columns_cut (Raw h) columns = absurd (let clash : false ≡ true = columns in cc)

@@ -1,11 +1,12 @@
 -- The records of a DTED cell that is written, and what its draft holds.
-use Rattle.std.specs.Prelude.{◌≡◌, ◌<◌, ℕ, ℤ, pos, negsuc, Bool, ◌&&◌, int_le, List, take, get_or}
+use Rattle.std.specs.Prelude.{◌≡◌, ◌<◌, ℕ, ℤ, pos, Bool, ◌&&◌, int_le, List, take, get_or}
 use Rattle.geotransform.specs.Types.{is_in}
 use Rattle.geotransform.specs.declared.types.PixelType.TheVariants.{Int16}
 use Rattle.dted_records.specs.Head.{Head, part}
 use Rattle.dted_records.specs.Places.{record_len, record_of}
 use Rattle.dted_records.specs.Records.{dted_at, column_of}
 use Rattle.dted_records.specs.Written.{record_bytes}
+use Rattle.catalog.specs.Drivers.{null_elevation}
 use Rattle.write_back.specs.Pieces.{AreBytes}
 
 -- a cell: its head, and the bytes in front of its records
@@ -19,7 +20,7 @@ cell_of head front = record { head = head; front = front }
 
 -- whether sign and magnitude can write an elevation in 16 bits
 abbrev pub is_elevation : ℤ → Bool
-is_elevation n = is_in Int16 n && int_le (negsuc 32766) n
+is_elevation n = is_in Int16 n && int_le null_elevation n
 
 -- a column was met: its record in the draft begins with 170
 abbrev pub IsBegun : Head → List ℕ → ℕ → Type 0

@@ -22,7 +22,7 @@ use Rattle.write_back.specs.declared.forms.Writer.TheVariants.{Raw, Hgt, Dted}
 use Rattle.write_back.specs.declared.rows.GridForm.{GridForm}
 use Rattle.dted_records.specs.Written.{record_bytes}
 use Rattle.write_back.specs.Columns.{Cell}
-use Rattle.write_back.specs.Forms.{cut_of, needed_of, seen, under, IsFormed, IsMet, HasPixel}
+use Rattle.write_back.specs.Forms.{cut_of, needed_of, pixel_sample, under, IsFormed, TellsMet, HasPixel}
 use Rattle.write_back.specs.Grids.{front_of, lines_text}
 use Rattle.write_back.specs.View.{Output, Blocks, Rows, SheetView, TargetView, sheet_in, shown, shown_on, IsSoundOn}
 use Rattle.write_back.specs.View.{IsRightOn, IsMetOn}
@@ -211,5 +211,5 @@ Publishes old t result new = (m : Files) → old ≡ Some m → (t.fault ≡ Non
 pub record HasSamples (w : Writer) (samples : ℕ → ℕ → ℕ → ℤ) (met : ℕ → ℕ → Type 0) (bytes : List ℕ) : Type 0 where
   pub len : length bytes ≡ needed_of w
   pub formed : IsFormed w bytes
-  pub each : (k x y : ℕ) → HasPixel w k x y → seen w (under w bytes) k x y ≡ samples k x y
-  pub begun : (k v : ℕ) → k < (cut_of w).bands → v < (cut_of w).blocks → met k v → IsMet w bytes v
+  pub each : (k x y : ℕ) → HasPixel w k x y → pixel_sample w (under w bytes) k x y ≡ samples k x y
+  pub begun : (k v : ℕ) → k < (cut_of w).bands → v < (cut_of w).blocks → met k v → TellsMet w bytes v

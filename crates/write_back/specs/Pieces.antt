@@ -10,7 +10,7 @@ use Rattle.interleaved_raw.specs.Raw.{position_of, sample_at, stride_of}
 use Rattle.hgt_tiles.specs.Places.{IsSide}
 use Rattle.catalog.specs.Places.{steps_over}
 use Rattle.band_blocks.specs.Contents.{shortest_piece}
-use Rattle.write_back.specs.declared.writer.Lane.{Lane}
+use Rattle.write_back.specs.declared.writer.BandPlaces.{BandPlaces}
 
 -- whether the samples of all bands of a line stand pixel by pixel
 abbrev pub is_woven : Layout → Bool
@@ -43,8 +43,8 @@ abbrev pub most_spots : ℕ
 most_spots = 1073741824
 
 -- where the samples of a band from a column on stand in the line that holds them
-abbrev pub lane_in : Bool → ℕ → ℕ → ℕ → Lane
-lane_in woven bands band x = if woven then record {
+abbrev pub band_places_by : Bool → ℕ → ℕ → ℕ → BandPlaces
+band_places_by woven bands band x = if woven then record {
   band = 0;
   start = x * bands + band;
   stride = bands;

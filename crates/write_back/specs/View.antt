@@ -10,7 +10,7 @@ use Rattle.write_back.specs.declared.fault.TargetFault.{TargetFault}
 use Rattle.write_back.specs.declared.forms.Writer.{Writer}
 use Rattle.write_back.specs.declared.forms.Writer.TheVariants.{Raw, Hgt, Dted}
 use Rattle.write_back.specs.declared.rows.GridForm.{GridForm}
-use Rattle.write_back.specs.Forms.{band_total, holds, most_calls, width_of, height_of, seen}
+use Rattle.write_back.specs.Forms.{band_total, holds, most_calls, column_total, line_total, pixel_sample}
 use Rattle.write_back.specs.Grids.{HasRows, grid_in}
 use Rattle.write_back.specs.Overlay.{IsOverlaid, WasMet, overlay}
 use Rattle.write_back.specs.State.{IsRight, IsSound, lines_met, block_total}
@@ -66,12 +66,12 @@ bands_of (Rows g) = 1
 
 -- how many columns an output has
 abbrev pub columns_of : Output → ℕ
-columns_of (Blocks w) = width_of w
+columns_of (Blocks w) = column_total w
 columns_of (Rows g) = g.size.w
 
 -- how many lines an output has
 abbrev pub rows_of : Output → ℕ
-rows_of (Blocks w) = height_of w
+rows_of (Blocks w) = line_total w
 rows_of (Rows g) = g.size.h
 
 -- a sample can be written
@@ -115,13 +115,13 @@ IsPooled (Blocks w) = Unit {0}
 IsPooled (Rows g) = ⊥
 
 -- the samples that a pool and a draft show
-abbrev pub seen_in : Writer → PoolView → Option (List ℕ) → ℕ → ℕ → ℕ → ℤ
-seen_in w pool None k x y = pos 0
-seen_in w pool (Some b) k x y = seen w (overlay w pool.entries b) k x y
+abbrev pub pixel_sample_in : Writer → PoolView → Option (List ℕ) → ℕ → ℕ → ℕ → ℤ
+pixel_sample_in w pool None k x y = pos 0
+pixel_sample_in w pool (Some b) k x y = pixel_sample w (overlay w pool.entries b) k x y
 
 -- the pixel that the pool and the draft of an output show
 abbrev pub shown_on : Output → PoolView → Option (List ℕ) → ℕ → ℕ → ℕ → ℤ
-shown_on (Blocks w) pool draft k x y = seen_in w pool draft k x y
+shown_on (Blocks w) pool draft k x y = pixel_sample_in w pool draft k x y
 shown_on (Rows g) pool draft k x y = grid_in g draft x y
 
 -- the pixel that a target shows

@@ -1,15 +1,15 @@
 // What differs between the outputs that are written through a pool of blocks.
 ghost use Rattle.std.specs.Prelude.{◌≡◌, ◌<◌, ◌≤◌, ◌+◌, ◌*◌, ◌^◌, ℕ, List, length, Some, OnOk};
 ghost use Rattle.outside.specs.Causes.{HasCause};
-ghost use Rattle.write_back.specs.Forms.{band_total, cut_of, height_of, holds, lane_of, most_calls, needed_of};
-ghost use Rattle.write_back.specs.Forms.{width_of, IsFormed};
+ghost use Rattle.write_back.specs.Forms.{band_total, cut_of, line_total, holds, band_places_of, most_calls, needed_of};
+ghost use Rattle.write_back.specs.Forms.{column_total, IsFormed};
 ghost use Rattle.write_back.specs.Overlay.{held_in, line_key, IsBlockWritten, IsLine};
 ghost use Rattle.write_back.specs.Pieces.{most_spots};
 
 use crate::TargetFault;
 use crate::cells::ColumnWriter;
 use crate::tiles::TileWriter;
-use crate::writer::{Lane, LineWriter, is_woven, line_bands, line_len};
+use crate::writer::{BandPlaces, LineWriter, is_woven, line_bands, line_len};
 use band_blocks::Block;
 use geotransform::{PixelType, Sample, Size, holds};
 use outside::Folder;
@@ -92,14 +92,14 @@ impl Writer {
     }
 
     // Where the pixels of a band from a column on stand in the block of a line.
-    pub(crate) fn lane(&self, band: u32, x: u32) -> Lane
+    pub(crate) fn band_places(&self, band: u32, x: u32) -> BandPlaces
         requires band { band < band_total self.now }
-        requires column { x < width_of self.now }
-        ensures lane { result ≡ lane_of self.now band x }
+        requires column { x < column_total self.now }
+        ensures places { result ≡ band_places_of self.now band x }
     {
         match self {
-            Writer::Raw(lines) => lines.lane(band, x),
-            Writer::Hgt(_) | Writer::Dted(_) => Lane {
+            Writer::Raw(lines) => lines.band_places(band, x),
+            Writer::Hgt(_) | Writer::Dted(_) => BandPlaces {
                 band,
                 start: x,
                 stride: 1,
@@ -109,8 +109,8 @@ impl Writer {
 
     // The columns and the lines.
     pub(crate) fn size(&self) -> Size
-        ensures columns { result.w ≡ width_of self.now }
-        ensures rows { result.h ≡ height_of self.now }
+        ensures columns { result.w ≡ column_total self.now }
+        ensures rows { result.h ≡ line_total self.now }
     {
         match self {
             Writer::Raw(lines) => lines.head().size,

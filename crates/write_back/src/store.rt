@@ -5,8 +5,8 @@ ghost use Rattle.std.specs.Prelude.{OnOk, IfOk};
 ghost use Rattle.outside.specs.Causes.{HasCause};
 ghost use Rattle.band_blocks.specs.Spread.{IsSpread};
 ghost use Rattle.block_cache.specs.Entries.{held_at};
-ghost use Rattle.write_back.specs.Forms.{band_total, cut_of, needed_of, most_calls, AreHeld, IsFormed, width_of};
-ghost use Rattle.write_back.specs.Forms.{height_of};
+ghost use Rattle.write_back.specs.Forms.{band_total, cut_of, needed_of, most_calls, AreHeld, IsFormed, column_total};
+ghost use Rattle.write_back.specs.Forms.{line_total};
 ghost use Rattle.write_back.specs.Overlay.{IsLine, IsPut, IsWindow, IsLineSet, AreSame, HoldsDirty, IsBlockWritten};
 ghost use Rattle.write_back.specs.Overlay.{held_in, line_key};
 ghost use Rattle.write_back.specs.Seen.{known_in, state_of};
@@ -299,8 +299,8 @@ impl<F: Folder> Store<F> {
         requires sound { IsSound self.old.writer self.old.pool }
         requires long { F.draft_len self.old.draft ≡ needed_of self.old.writer }
         requires band { band < band_total self.old.writer }
-        requires across { rect.x + rect.w ≤ width_of self.old.writer }
-        requires down { rect.y + rect.h ≤ height_of self.old.writer }
+        requires across { rect.x + rect.w ≤ column_total self.old.writer }
+        requires down { rect.y + rect.h ≤ line_total self.old.writer }
         requires size { length samples.now ≡ rect.w * rect.h }
         requires range { AreHeld self.old.writer samples.now }
         ensures head { self.new.writer ≡ self.old.writer }
@@ -312,13 +312,13 @@ impl<F: Folder> Store<F> {
     {
         // This call is made for the proof: it says that a block's number fits.
         let _shape = self.writer.shape();
-        let lane = self.writer.lane(band, rect.x);
+        let places = self.writer.band_places(band, rect.x);
         for row in 0..rect.h {
             let line = nth_run(samples, row, rect.w);
             let spot = Spot {
-                band: lane.band,
-                x: lane.start,
-                stride: lane.stride,
+                band: places.band,
+                x: places.start,
+                stride: places.stride,
                 y: rect.y + row,
             };
             self.put(alloc, folder, spot, line, writes)?;
@@ -388,8 +388,8 @@ impl<F: Folder> Store<F> {
         requires sound { IsSound self.old.writer self.old.pool }
         requires long { F.draft_len self.old.draft ≡ needed_of self.old.writer }
         requires band { band < band_total self.old.writer }
-        requires across { rect.x + rect.w ≤ width_of self.old.writer }
-        requires down { rect.y + rect.h ≤ height_of self.old.writer }
+        requires across { rect.x + rect.w ≤ column_total self.old.writer }
+        requires down { rect.y + rect.h ≤ line_total self.old.writer }
         requires size { length samples.now ≡ rect.w * rect.h }
         requires range { AreHeld self.old.writer samples.now }
         ensures head { self.new.writer ≡ self.old.writer }

@@ -9,7 +9,7 @@ place_of-requires-clause-long g c = (g.F.Folder.file_len c.args.file.now, c.requ
 pub read_at-requires : goal.read_at-requires
 read_at-requires g c =
     let within = sample_within c.args.driver.now c.args.pixel.band c.args.pixel.x c.args.pixel.y (g.F.Folder.file_len c.args.file.now) c.requires.sample c.requires.places c.requires.long in
-    let few = c.width_of.ensures.few in
+    let few = c.bytes_per_sample.ensures.few in
     let zeros : List ℕ = 0 ∷ 0 ∷ 0 ∷ 0 ∷ 0 ∷ 0 ∷ 0 ∷ 0 ∷ [] in
-    let long = length-take-le c.width_of.result zeros (omega arith) in
-    omega (arith, within, long, c.place_of.ensures.place, c.width_of.ensures.width)
+    let long = length-take-le c.bytes_per_sample.result zeros (omega arith) in
+    omega (arith, within, long, c.place_of.ensures.place, c.bytes_per_sample.ensures.width)

@@ -4,7 +4,7 @@ use Rattle.catalog.specs.Outcomes.{IsOutside}
 use Rattle.catalog.specs.Drivers.{Dataset}
 use Rattle.catalog.specs.Readings.{calls_to_open_all}
 use Rattle.catalog.specs.Walk.{walked, IsCatalog, IsWalked}
-use Rattle.catalog.specs.Linked.{State, IsWhole}
+use Rattle.catalog.specs.Linked.{State, IsWholeWalk}
 use Rattle.catalog.proofs.Readings.{more_read}
 use Rattle.catalog.proofs.Wholes.{whole_goes}
 use Rattle.catalog.proofs.Opened.{open_told, refused_told, datasets_kept, goes_on, cut_same}
@@ -16,7 +16,7 @@ invariant_of-cat g c = whole_goes c.cat.inside.met c.visit.new.met c.cat.invaria
 pub invariant_of-cat-in-Err : goal.invariant_of-cat-in-Err
 invariant_of-cat-in-Err g c =
     let same = cut_same c.cat.inside.met c.visit.new.met c.cut.new.self c.count-count.result c.sources-sources.result c.cat.invariant c.in-Err.ensures.visits.walks.grows c.count-count.ensures.count c.sources-sources.ensures.sources c.cut.ensures.cut in
-    subst IsWhole (sym same) c.cat.invariant
+    subst IsWholeWalk (sym same) c.cat.invariant
 
 pub returns-in-Ok-clause-told : goal.returns-in-Ok-clause-told
 returns-in-Ok-clause-told g c = λ m told.

@@ -3,7 +3,7 @@ use Rattle.std.proofs.lemmas.Option.{slice_get_within}
 use Rattle.vrt_profile.specs.Values.{BandValue, DocumentValue}
 use Rattle.catalog.specs.Mosaics.{sources_of}
 use Rattle.catalog.specs.declared.faults.WalkFault.TheVariants.{Memory}
-use Rattle.catalog.specs.Walking.{seen}
+use Rattle.catalog.specs.Walking.{folder_seen}
 use Rattle.catalog.proofs.Listings.{err_is}
 use Rattle.catalog.proofs.Passes.{source_unnamed, names_uncounted, counted_linked, mosaic_still, source_unvisited, source_bandless, source_passed, band_refused, band_more, band_ends, bands_refused, bands_more, bands_end, source_there, band_there, item_counted}
 use Rattle.catalog.proofs.Walking.{passes_memory}
@@ -137,7 +137,7 @@ pub visit_band-returns : goal.visit_band-returns
 visit_band-returns g t c = record {
   passes = λ w.
       let same = ap (λ (b : BandValue). length b.sources) (c.behind-met.view_is ∙ c.band.ensures.band w) in
-      band_ends c.args.verify c.args.room w.mosaic.dataset.head.name w.value.sources _ _ (seen (g.F.Folder.names c.loop-source.folder) (g.F.Folder.write_calls c.loop-source.folder) (g.F.Folder.read_calls c.loop-source.folder) (g.F.Folder.faults c.loop-source.folder)) c.args.met.now c.loop-source.met c.loop-source.met c.loop-source.source c.loop-source.row (c.loop-source.invariant w) (omega (arith, same, c.loop-source-test.false, c.len-count.ensures.count));
+      band_ends c.args.verify c.args.room w.mosaic.dataset.head.name w.value.sources _ _ (folder_seen (g.F.Folder.names c.loop-source.folder) (g.F.Folder.write_calls c.loop-source.folder) (g.F.Folder.read_calls c.loop-source.folder) (g.F.Folder.faults c.loop-source.folder)) c.args.met.now c.loop-source.met c.loop-source.met c.loop-source.source c.loop-source.row (c.loop-source.invariant w) (omega (arith, same, c.loop-source-test.false, c.len-count.ensures.count));
 }
 
 pub visit_bands-visit_band-requires-clause-linked : goal.visit_bands-visit_band-requires-clause-linked
@@ -183,5 +183,5 @@ pub visit_bands-returns : goal.visit_bands-returns
 visit_bands-returns g t c = record {
   passes = λ w.
       let same = ap (λ (d : DocumentValue). length d.bands) (c.behind-met.view_is ∙ c.document.ensures.document w) in
-      bands_end c.args.verify c.args.room w.dataset.head.name w.document.bands _ _ (seen (g.F.Folder.names c.loop-band.folder) (g.F.Folder.write_calls c.loop-band.folder) (g.F.Folder.read_calls c.loop-band.folder) (g.F.Folder.faults c.loop-band.folder)) c.args.met.now c.loop-band.met c.loop-band.met c.loop-band.band c.loop-band.rows (c.loop-band.invariant w) (omega (arith, same, c.loop-band-test.false, c.len-count.ensures.count));
+      bands_end c.args.verify c.args.room w.dataset.head.name w.document.bands _ _ (folder_seen (g.F.Folder.names c.loop-band.folder) (g.F.Folder.write_calls c.loop-band.folder) (g.F.Folder.read_calls c.loop-band.folder) (g.F.Folder.faults c.loop-band.folder)) c.args.met.now c.loop-band.met c.loop-band.met c.loop-band.band c.loop-band.rows (c.loop-band.invariant w) (omega (arith, same, c.loop-band-test.false, c.len-count.ensures.count));
 }

@@ -1,6 +1,6 @@
-use Rattle.std.proofs.Common.{◌*◌, ◌/◌, refl, ap, length, arith}
+use Rattle.std.proofs.Common.{◌*◌, refl, ap, arith}
 use Rattle.nearest_window.specs.declared.window.Window.{Window}
-use Rattle.lane_teams.proofs.Halving.{front_ready, back_ready, front_fits, halves_read}
+use Rattle.lane_teams.proofs.Groups.{front_ready, back_ready, front_fits, groups_read}
 use Rattle.lane_teams.proofs.Windows.{window_low}
 use Rattle.lane_teams.proofs.beside.+lanes.Goals as goal
 
@@ -12,14 +12,16 @@ read_all-part_of-requires-clause-low g t c = window_low c.args.supply.now.cat.no
 
 pub read_all-split_at_mut-out-requires : goal.read_all-split_at_mut-out-requires
 read_all-split_at_mut-out-requires g t c =
-    front_fits g.F.Folder g.S.Scene.told c.args.supply.now.cat.now c.args.job.now c.args.first (length c.args.lanes.now / 2) c.args.lanes.now c.args.turns.now c.args.out.now c.part_of.result.rect c.requires.ready (omega arith) (ap (λ (w : Window). w.rect) c.part_of.ensures.part)
+    let ready = c.requires.ready in
+    let some = ready.some in
+    front_fits g.F.Folder g.S.Scene.told c.args.supply.now.cat.now c.args.job.now c.args.first 1 c.args.lanes.now c.args.turns.now c.args.out.now c.part_of.result.rect c.requires.ready (omega arith) (ap (λ (w : Window). w.rect) c.part_of.ensures.part)
 
 pub read_all-read_pair-requires-clause-front : goal.read_all-read_pair-requires-clause-front
 read_all-read_pair-requires-clause-front g t c κs within =
     let ready = c.requires.ready in
     let some = ready.some in
     let more = c.if-count-eq1.false in
-    front_ready g.F.Folder g.S.Scene.told c.args.supply.now.cat.now c.args.job.now c.args.first (length c.args.lanes.now / 2) (c.part_of.result.rect.w * c.part_of.result.rect.h)
+    front_ready g.F.Folder g.S.Scene.told c.args.supply.now.cat.now c.args.job.now c.args.first 1 (c.part_of.result.rect.w * c.part_of.result.rect.h)
     c.args.lanes.now c.split_at_mut-lanes.result.0.now c.split_at_mut-lanes.result.1.now c.args.turns.now c.split_at_mut-turns.result.0.now c.split_at_mut-turns.result.1.now c.args.out.now c.split_at_mut-out.result.0.now c.split_at_mut-out.result.1.now
     ready c.split_at_mut-lanes.ensures.value c.split_at_mut-lanes.ensures.front_len c.split_at_mut-turns.ensures.value c.split_at_mut-turns.ensures.front_len c.split_at_mut-out.ensures.value c.split_at_mut-out.ensures.front_len
     (omega arith) (omega arith) (ap (λ (w : Window). w.rect.w * w.rect.h) c.part_of.ensures.part)
@@ -29,7 +31,7 @@ read_all-read_pair-requires-clause-back g t c κs within =
     let ready = c.requires.ready in
     let some = ready.some in
     let more = c.if-count-eq1.false in
-    back_ready g.F.Folder g.S.Scene.told c.args.supply.now.cat.now c.args.job.now c.args.first (length c.args.lanes.now / 2) (c.part_of.result.rect.w * c.part_of.result.rect.h)
+    back_ready g.F.Folder g.S.Scene.told c.args.supply.now.cat.now c.args.job.now c.args.first 1 (c.part_of.result.rect.w * c.part_of.result.rect.h)
     c.args.lanes.now c.split_at_mut-lanes.result.0.now c.split_at_mut-lanes.result.1.now c.args.turns.now c.split_at_mut-turns.result.0.now c.split_at_mut-turns.result.1.now c.args.out.now c.split_at_mut-out.result.0.now c.split_at_mut-out.result.1.now
     ready c.split_at_mut-lanes.ensures.value c.split_at_mut-lanes.ensures.front_len c.split_at_mut-turns.ensures.value c.split_at_mut-turns.ensures.front_len c.split_at_mut-out.ensures.value c.split_at_mut-out.ensures.front_len
     (omega arith) (omega arith) (ap (λ (w : Window). w.rect.w * w.rect.h) c.part_of.ensures.part)
@@ -42,7 +44,7 @@ read_all-returns g t c =
     let o = c.read_pair.ensures in
     record {
       read =
-          halves_read g.F.Folder g.S.Scene.told c.args.supply.now.cat.now c.args.job.now c.args.first (length c.args.lanes.now / 2)
+          groups_read g.F.Folder g.S.Scene.told c.args.supply.now.cat.now c.args.job.now c.args.first 1
           c.args.lanes.now c.split_at_mut-lanes.result.0.now c.split_at_mut-lanes.result.1.now _ _ _ _ _ _ _ _ _
           (omega arith) c.split_at_mut-lanes.ensures.value c.split_at_mut-lanes.ensures.front_len o.front o.back refl refl refl;
     }

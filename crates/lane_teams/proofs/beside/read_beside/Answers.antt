@@ -5,7 +5,7 @@ use Rattle.lane_teams.specs.Parts.{part_of, AreOfWindow}
 use Rattle.lane_teams.specs.Refusals.{IsFirstOf}
 use Rattle.lane_teams.specs.Turns.{IsDone, IsTurnOf}
 use Rattle.lane_teams.proofs.Answered.{err_is, team_answered}
-use Rattle.lane_teams.proofs.Halving.{all_kept, all_right, all_ready, walked_of}
+use Rattle.lane_teams.proofs.Groups.{all_kept, all_right, all_ready, walked_of}
 use Rattle.lane_teams.proofs.Refusals.{all_done, ok_given, put_back}
 use Rattle.lane_teams.proofs.Windows.{whole_window}
 use Rattle.lane_teams.proofs.beside.read_beside.Goals as goal

@@ -2,7 +2,7 @@ use Rattle.std.proofs.Common.{◌+◌, sym, subst, arith}
 use Rattle.nearest_window.specs.Shown.{IsWindow}
 use Rattle.lane_teams.specs.Parts.{AreOfWindow}
 use Rattle.lane_teams.proofs.Windows.{window_part}
-use Rattle.lane_teams.proofs.Halving.{one_read}
+use Rattle.lane_teams.proofs.Groups.{one_read}
 use Rattle.lane_teams.proofs.single.read_one.Goals as goal
 
 pub take_turn-requires-clause-window : goal.take_turn-requires-clause-window

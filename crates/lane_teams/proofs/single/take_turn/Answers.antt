@@ -1,6 +1,6 @@
 use Rattle.std.proofs.Common.{◌∙◌, sym, subst, arith}
 use Rattle.lane_teams.specs.Parts.{AreOfWindow}
-use Rattle.lane_teams.proofs.Halving.{ready_over, right_over}
+use Rattle.lane_teams.proofs.Groups.{ready_over, right_over}
 use Rattle.lane_teams.proofs.Refusals.{ok_then}
 use Rattle.lane_teams.proofs.single.take_turn.Goals as goal
 

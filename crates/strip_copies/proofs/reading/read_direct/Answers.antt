@@ -49,7 +49,7 @@ pub hold_all-requires : goal.hold_all-requires
 hold_all-requires g c =
     let part = c.requires.part in
     let at = ap (slice_get c.args.shown.now.translation.now.cat) c.window_of-window.ensures.dataset ∙ part.at in
-    record { kind = λ k d less. c.in_ok-read_window_with.ensures.typed k d less part.dataset c.kind_of-kind.result at (c.kind_of-kind.ensures.kind part.dataset part.at) }
+    record { kind = λ k d less. c.in_ok-read_window_with.ensures.typed k d less part.dataset c.band_type_of-kind.result at (c.band_type_of-kind.ensures.kind part.dataset part.at) }
 
 pub returns-clause-samples : goal.returns-clause-samples
 returns-clause-samples g c = λ d at.

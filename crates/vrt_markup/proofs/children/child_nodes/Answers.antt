@@ -20,7 +20,7 @@ items-preserved-in-Run g c =
     let step = g.P.Parts.step c.args.parts.now in
     let kept = kept_of (g.P.Parts.value c.items.parts) c.items.seen.kept in
     record {
-      left = ap (λ b. read_as (seen step kept (c.items.seen.blank && b)) (nodes c.args.level.total c.args.level.depth c.args.name.now c.in-Run.more.now)) c.is_blank.ensures.blank
+      left = ap (λ b. read_as (seen step kept (c.items.seen.blank && b)) (nodes c.args.level.total c.args.level.depth c.args.name.now c.in-Run.more.now)) c.is_all_white.ensures.blank
           ∙ sym (seen_run step kept c.items.seen.blank c.args.level.total c.args.level.depth c.args.name.now c.items.rest.now c.in-Run.raw.now c.in-Run.more.now c.in-Run.ensures.item) ∙ c.items.invariant.left;
       same = c.items.invariant.same;
       shorter = omega (arith, c.in-Run.ensures.shorter, c.items.invariant.shorter);

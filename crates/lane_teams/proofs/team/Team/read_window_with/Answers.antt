@@ -9,7 +9,7 @@ use Rattle.nearest_window.specs.Right.{IsReady}
 use Rattle.lane_teams.specs.Parts.{readers_of}
 use Rattle.lane_teams.specs.Refusals.{IsFirstOf, IsTeamAnswer}
 use Rattle.lane_teams.proofs.Answered.{alone_answered, one_reader, several_readers}
-use Rattle.lane_teams.proofs.Halving.{all_kept}
+use Rattle.lane_teams.proofs.Groups.{all_kept}
 use Rattle.lane_teams.proofs.Refusals.{on_ok, put_back}
 use Rattle.lane_teams.proofs.Windows.{shown_of}
 use Rattle.lane_teams.proofs.team.Team.read_window_with.Goals as goal

@@ -42,7 +42,7 @@ pack-requires-clause-range g c =
     let d = c.requires.key.0 in
     let at = c.requires.key.1.at in
     let same : to_z w128 (of_z w128 c.in_ok-sample.sample) ≡ c.in_ok-sample.sample = search rules in
-    one_in c.kind_of-kind.result (to_z w128 (of_z w128 c.in_ok-sample.sample)) (subst (λ v. is_in c.kind_of-kind.result v ≡ true) (sym same) (c.in_ok-sample.ensures.typed d at c.kind_of-kind.result (c.kind_of-kind.ensures.kind d at)))
+    one_in c.band_type_of-kind.result (to_z w128 (of_z w128 c.in_ok-sample.sample)) (subst (λ v. is_in c.band_type_of-kind.result v ≡ true) (sym same) (c.in_ok-sample.ensures.typed d at c.band_type_of-kind.result (c.band_type_of-kind.ensures.kind d at)))
 
 pub returns-clause-block : goal.returns-clause-block
 returns-clause-block g c =
@@ -50,8 +50,8 @@ returns-clause-block g c =
     let d = c.requires.key.0 in
     let at = c.requires.key.1.at in
     let same : to_z w128 (of_z w128 c.in_ok-sample.sample) ≡ c.in_ok-sample.sample = search rules in
-    pixel_block (g.F.Folder.names c.load_sample.new.folder) c.args.cat.now c.args.key d c.args.rect c.kind_of-kind.result (to_z w128 (of_z w128 c.in_ok-sample.sample)) c.in_ok-pack.field-0 c.requires.key.1 c.requires.narrow c.requires.low
-    (c.kind_of-kind.ensures.kind d at)
-    (subst (λ v. is_in c.kind_of-kind.result v ≡ true) (sym same) (c.in_ok-sample.ensures.typed d at c.kind_of-kind.result (c.kind_of-kind.ensures.kind d at)))
+    pixel_block (g.F.Folder.names c.load_sample.new.folder) c.args.cat.now c.args.key d c.args.rect c.band_type_of-kind.result (to_z w128 (of_z w128 c.in_ok-sample.sample)) c.in_ok-pack.field-0 c.requires.key.1 c.requires.narrow c.requires.low
+    (c.band_type_of-kind.ensures.kind d at)
+    (subst (λ v. is_in c.band_type_of-kind.result v ≡ true) (sym same) (c.in_ok-sample.ensures.typed d at c.band_type_of-kind.result (c.band_type_of-kind.ensures.kind d at)))
     (λ m e. let before = sym o.only_read.names ∙ e in same ∙ c.in_ok-sample.ensures.told m before (c.requires.ready.walked m before))
     c.in_ok-pack.ensures.samples

@@ -13,8 +13,8 @@ pack-requires-clause-range g c =
     let same : to_z w128 (of_z w128 c.in_ok-sample.sample) ≡ c.in_ok-sample.sample = search rules in
     let there : Contains c.args.self.now.recalled (pixel_at c.args.key c.args.rect, c.in_ok-sample.sample) =
     subst (λ k. Contains c.args.self.now.recalled (k, c.in_ok-sample.sample)) c.pixel_at.ensures.pixel (subst (λ lane. Contains lane.recalled (c.pixel_at.result, c.in_ok-sample.sample)) c.self.view_is c.in_ok-sample.ensures.found) in
-    one_in c.kind_of.result (to_z w128 (of_z w128 c.in_ok-sample.sample)) (subst (λ v. is_in c.kind_of.result v ≡ true) (sym same)
-    (recalled_in c.requires.recalled.0 c.args.cat.now (pixel_at c.args.key c.args.rect) d c.kind_of.result c.in_ok-sample.sample at (c.kind_of.ensures.kind d at) (c.requires.recalled.1 (pixel_at c.args.key c.args.rect) c.in_ok-sample.sample there)))
+    one_in c.band_type_of.result (to_z w128 (of_z w128 c.in_ok-sample.sample)) (subst (λ v. is_in c.band_type_of.result v ≡ true) (sym same)
+    (recalled_in c.requires.recalled.0 c.args.cat.now (pixel_at c.args.key c.args.rect) d c.band_type_of.result c.in_ok-sample.sample at (c.band_type_of.ensures.kind d at) (c.requires.recalled.1 (pixel_at c.args.key c.args.rect) c.in_ok-sample.sample there)))
 
 pub returns-in-Ok : goal.returns-in-Ok
 returns-in-Ok g c =
@@ -30,6 +30,6 @@ returns-in-Ok g c =
     subst (λ k. Contains c.args.self.now.recalled (k, c.in_ok-sample.sample)) c.pixel_at.ensures.pixel (subst (λ lane. Contains lane.recalled (c.pixel_at.result, c.in_ok-sample.sample)) c.self.view_is c.in_ok-sample.ensures.found) in
     record {
       block = λ told right.
-          recalled_block told c.args.cat.now c.args.key d c.args.rect c.kind_of.result (to_z w128 (of_z w128 c.in_ok-sample.sample)) c.in-Ok.block c.requires.key.1 narrow low (c.kind_of.ensures.kind d at)
+          recalled_block told c.args.cat.now c.args.key d c.args.rect c.band_type_of.result (to_z w128 (of_z w128 c.in_ok-sample.sample)) c.in-Ok.block c.requires.key.1 narrow low (c.band_type_of.ensures.kind d at)
           (subst (λ v. IsRecalled told c.args.cat.now (pixel_at c.args.key c.args.rect) v) (sym same) (right (pixel_at c.args.key c.args.rect) c.in_ok-sample.sample there)) c.in-Ok.ensures.samples;
     }

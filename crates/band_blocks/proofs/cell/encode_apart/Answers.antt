@@ -5,7 +5,7 @@ use Rattle.interleaved_raw.specs.Raw.{stride_of, sample_bytes}
 use Rattle.interleaved_raw.proofs.Runs.{room}
 use Rattle.interleaved_raw.proofs.Writes.{written_more, others_more, sample_bytes_len}
 use Rattle.band_blocks.proofs.Cells.{encoded}
-use Rattle.band_blocks.proofs.cell.encode_cells.Goals as goal
+use Rattle.band_blocks.proofs.cell.encode_apart.Goals as goal
 
 pub loop-i-preserved : goal.loop-i-preserved
 loop-i-preserved g c =
@@ -14,10 +14,10 @@ loop-i-preserved g c =
     let x = c.index-cells-i.result in
     let ys = c.encode.new.bytes in
     let so_far = c.loop-i.invariant in
-    let is_at : i * c.stride-stride.result ≡ i * stride_of h = ap (λ k. i * k) c.stride-stride.ensures.value in
-    let wide : sample_len h.kind ≤ stride_of h = omega (arith, c.stride-stride.ensures.wide, c.stride-stride.ensures.value) in
-    let is_s : c.sample_len-s.result ≡ sample_len h.kind = c.sample_len-s.ensures.value ∙ ap (λ (h : Head). sample_len h.kind) c.head.view_is in
-    let is_k : i * c.stride-stride.result + c.sample_len-s.result - i * c.stride-stride.result ≡ sample_len h.kind = omega (arith, is_s) in
+    let is_at : i * c.args.stride ≡ i * stride_of h = ap (λ k. i * k) c.requires.apart in
+    let wide : sample_len h.kind ≤ stride_of h = omega (arith, c.requires.wide, c.requires.apart) in
+    let is_s : c.sample_len-s.result ≡ sample_len h.kind = c.sample_len-s.ensures.value ∙ ap sample_len (c.kind-kind.ensures ∙ c.requires.kind) in
+    let is_k : i * c.args.stride + c.sample_len-s.result - i * c.args.stride ≡ sample_len h.kind = omega (arith, is_s) in
     let is_ys : ys ≡ sample_bytes h (g.T.Cell.value x) = encoded g.T.Cell.kind h c.head.inside.big (g.T.Cell.value x) ys c.requires.kind (ap (λ (h : Head). h.big) c.head.view_is) c.encode.ensures in
     let is_n : g.T.Cell.value x ≡ get_or (map g.T.Cell.value c.args.cells.now) i (pos 0) = sym (get_or-map g.T.Cell.value c.args.cells.now i x (pos 0) c.loop-i-test.true ∙ ap g.T.Cell.value (sym c.index-cells-i.is)) in
     let len : length ys ≡ sample_len h.kind = ap length is_ys ∙ sample_bytes_len h (g.T.Cell.value x) in

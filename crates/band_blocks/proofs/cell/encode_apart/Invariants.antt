@@ -1,6 +1,6 @@
 use Rattle.std.proofs.Common.{◌≡◌, ℕ, ◌<◌, map, get_or, pos}
 use Rattle.interleaved_raw.specs.Raw.{bytes_at, sample_bytes, IsBetween}
-use Rattle.band_blocks.proofs.cell.encode_cells.Given as goal
+use Rattle.band_blocks.proofs.cell.encode_apart.Given as goal
 
 abbrev pub invariant-loop-i : goal.invariant-loop-i
 invariant-loop-i g l = record {

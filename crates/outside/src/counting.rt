@@ -3,7 +3,7 @@ ghost use Rattle.std.specs.Prelude.{◌≡◌, ◌+◌, ◌≤◌, length, IfOk,
 ghost use Rattle.outside.specs.Causes.{HasCause, FailsWith, Absorbed, one_more, added};
 ghost use Rattle.outside.specs.Outside.{Opened, IsLong, NotThere, Reads, Created, Grown, Written, Appended, Published};
 ghost use Rattle.outside.specs.Outside.{ChangesOnly, IsView};
-ghost use Rattle.outside.specs.Tallies.{opens_of};
+ghost use Rattle.outside.specs.Counting.{opens_of};
 
 use crate::{Failed, Folder, Name, OpenFault, WriteFault};
 use std::alloc::AllocError;
@@ -11,23 +11,23 @@ use std::alloc::AllocError;
 /// A folder around another. It counts the calls of `open`, `read_at` and `write_at`, its own and those of the views
 /// that it absorbed; each number stands still at 2^64 - 1.
 #[derive(Drop)]
-pub struct Tally<F> {
+pub struct CountingFolder<F> {
     inner: F,
     opens: u64,
     reads: u64,
     writes: u64,
 }
 
-impl<F: Folder> Tally<F> {
+impl<F: Folder> CountingFolder<F> {
     /// Counts the calls of this folder from now on.
     pub fn new(inner: F) -> Self
-        ensures names { ⟦<Tally<F> as Folder>⟧.names result ≡ F.names inner }
-        ensures faults { ⟦<Tally<F> as Folder>⟧.faults result ≡ F.faults inner }
+        ensures names { ⟦<CountingFolder<F> as Folder>⟧.names result ≡ F.names inner }
+        ensures faults { ⟦<CountingFolder<F> as Folder>⟧.faults result ≡ F.faults inner }
         ensures opens { opens_of result ≡ 0 }
-        ensures reads { ⟦<Tally<F> as Folder>⟧.read_calls result ≡ 0 }
-        ensures writes { ⟦<Tally<F> as Folder>⟧.write_calls result ≡ 0 }
+        ensures reads { ⟦<CountingFolder<F> as Folder>⟧.read_calls result ≡ 0 }
+        ensures writes { ⟦<CountingFolder<F> as Folder>⟧.write_calls result ≡ 0 }
     {
-        Tally {
+        CountingFolder {
             inner,
             opens: 0,
             reads: 0,
@@ -44,24 +44,24 @@ impl<F: Folder> Tally<F> {
 
     /// The number of `read_at` calls.
     pub fn reads(&self) -> u64
-        ensures reads { result ≡ ⟦<Tally<F> as Folder>⟧.read_calls self.now }
+        ensures reads { result ≡ ⟦<CountingFolder<F> as Folder>⟧.read_calls self.now }
     {
         self.reads
     }
 
     /// The number of `write_at` calls.
     pub fn writes(&self) -> u64
-        ensures writes { result ≡ ⟦<Tally<F> as Folder>⟧.write_calls self.now }
+        ensures writes { result ≡ ⟦<CountingFolder<F> as Folder>⟧.write_calls self.now }
     {
         self.writes
     }
 
     /// Gives the folder back.
     pub fn into_inner(self) -> F
-        ensures names { F.names result ≡ ⟦<Tally<F> as Folder>⟧.names self }
-        ensures faults { F.faults result ≡ ⟦<Tally<F> as Folder>⟧.faults self }
+        ensures names { F.names result ≡ ⟦<CountingFolder<F> as Folder>⟧.names self }
+        ensures faults { F.faults result ≡ ⟦<CountingFolder<F> as Folder>⟧.faults self }
     {
-        let Tally {
+        let CountingFolder {
             inner,
             opens: _,
             reads: _,
@@ -71,7 +71,7 @@ impl<F: Folder> Tally<F> {
     }
 }
 
-impl<F: Folder> Folder for Tally<F> {
+impl<F: Folder> Folder for CountingFolder<F> {
     type File = F::File;
 
     type Draft = F::Draft;
@@ -225,7 +225,7 @@ impl<F: Folder> Folder for Tally<F> {
             view.reads view.writes) }
         ensures opens { IfOk result (λ view. opens_of view ≡ 0) }
     {
-        Ok(Tally {
+        Ok(CountingFolder {
             inner: self.inner.fork()?,
             opens: 0,
             reads: 0,
@@ -241,7 +241,7 @@ impl<F: Folder> Folder for Tally<F> {
         ensures counted { F.faults self.new.inner ≡ added (F.faults self.old.inner) (F.faults view.inner) }
         ensures opens { opens_of self.new ≡ added (opens_of self.old) (opens_of view) }
     {
-        let Tally {
+        let CountingFolder {
             inner,
             opens,
             reads,

@@ -3,7 +3,7 @@ use Rattle.std.specs.List.{range_with_len}
 use Rattle.geotransform.specs.Types.{is_in}
 use Rattle.interleaved_raw.specs.Raw.{strided_at}
 use Rattle.band_blocks.specs.Blocks.{written}
-use Rattle.band_blocks.proofs.cell.decode_cells.Given as goal
+use Rattle.band_blocks.proofs.cell.decode_apart.Given as goal
 
 abbrev pub invariant-loop-i : goal.invariant-loop-i
 invariant-loop-i g l = record {

@@ -1,4 +1,4 @@
--- Lanes that are cut into two halves, and what both have read.
+-- Lanes that are cut into two groups, and what both have read.
 use Rattle.std.proofs.Common.{◌≡◌, ◌∙◌, sym, ap, subst, ◌+◌, ◌*◌, ◌<◌, ◌≤◌, ℕ, ℤ, List, [], ◌∷◌, ◌++◌, length, length-append, map, get_or, Option, Some, Ok, arith}
 use Rattle.std.specs.List.{All}
 use Rattle.std.specs.Prelude.{slice_set}
@@ -96,7 +96,7 @@ module _ {F File Draft : Type 0} (calls : Ghosts F File Draft) (told : Option Fi
   }
 
 module _ {F File Draft : Type 0} (calls : Ghosts F File Draft) (told : Option Files) (cat : List Dataset) (job : Job) where
-  -- the lanes of both halves have read
+  -- the lanes of both groups have read
   pub both_read : (k : ℕ) (a b a' b' : List (LaneView File)) (t u : List (Turn F File Draft)) (p q : List ℤ) → 0 < job.count
       → HaveRead calls told cat job k a a' t p → HaveRead calls told cat job (k + length a) b b' u q
       → HaveRead calls told cat job k (a ++ b) (a' ++ b') (t ++ u) (p ++ q)
@@ -159,10 +159,10 @@ module _ {F File Draft : Type 0} (calls : Ghosts F File Draft) (told : Option Fi
       let z = ready.size in
       omega arith
 
-  pub halves_read : (k low : ℕ) (lanes a b a' b' l : List (LaneView File)) (t' u' t : List (Turn F File Draft)) (p' q' o : List ℤ) → 0 < job.count → lanes ≡ a ++ b → length a ≡ low
+  pub groups_read : (k low : ℕ) (lanes a b a' b' l : List (LaneView File)) (t' u' t : List (Turn F File Draft)) (p' q' o : List ℤ) → 0 < job.count → lanes ≡ a ++ b → length a ≡ low
       → HaveRead calls told cat job k a a' t' p' → HaveRead calls told cat job (k + low) b b' u' q'
       → l ≡ a' ++ b' → t ≡ t' ++ u' → o ≡ p' ++ q' → HaveRead calls told cat job k lanes l t o
-  halves_read k low lanes a b a' b' l t' u' t p' q' o some el la front back is_l is_t is_o =
+  groups_read k low lanes a b a' b' l t' u' t p' q' o some el la front back is_l is_t is_o =
       let behind = subst (λ n. HaveRead calls told cat job (k + n) b b' u' q') (sym la) back in
       let whole = both_read k a b a' b' t' u' p' q' some front behind in
       subst (λ xs. HaveRead calls told cat job k xs l t o) (sym el)
