@@ -33,7 +33,7 @@ module _ {F File Draft : Type 0} (calls : Ghosts F File Draft) (told : Option Fi
   pub done_renewed : (top end : ℕ) (x y : Worker F File Draft) → HasDone calls told scene cat id p w rows step top end x → IsWorker calls told scene cat id p w rows step y → y.desk.packed ≡ x.desk.packed → y.answer ≡ x.answer → HasDone calls told scene cat id p w rows step top end y
   done_renewed top end x y done worker packed answer = record {
     worker = worker;
-    made = λ ok. subst (λ l. AreMade told cat id p w top l.items end end 0) (sym packed) (done.made (sym answer ∙ ok));
+    made = λ ok. subst (λ (ls : List (List ℕ)). AreMade told cat id p w top ls end end 0) (ap (λ v. v.items) (sym packed)) (done.made (sym answer ∙ ok));
     changed = subst (λ (r : Result (Unit {0}) Fault). IfErr r (TellsChange cat)) (sym answer) done.changed;
   }
 

@@ -276,7 +276,8 @@ fn make_counted<R: Threads + Sync, F: Folder, L: Ledger, S: Scene>(
         columns,
         samples,
     } = reader;
-    let Team { lanes, loads: _ } = team;
+    let Team { lanes, loads } = team;
+    drop(loads);
     drop(mem::replace(&mut worker.lanes, lanes));
     drop(mem::replace(&mut worker.columns, columns));
     drop(mem::replace(&mut worker.samples, samples));
@@ -361,5 +362,5 @@ pub fn make_all<R: Threads + Sync, F: Folder, S: Scene>(
         let _count = count;
         make_turn::<R, F, S>(rt, task, first, at, worker);
     };
-    each_at_once(rt, &make, 0, workers);
+    each_at_once(rt, &make, workers);
 }

@@ -149,7 +149,8 @@ fn kit_for<F: Folder, L: Ledger>(
         columns,
         samples,
     } = reader;
-    let Team { lanes, loads: _ } = team;
+    let Team { lanes, loads } = team;
+    drop(loads);
     Ok(Kit {
         lanes,
         columns,

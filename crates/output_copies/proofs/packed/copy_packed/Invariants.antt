@@ -10,10 +10,10 @@ use Rattle.output_copies.proofs.packed.copy_packed.Given as goal
 abbrev pub invariant-loop-line : goal.invariant-loop-line
 invariant-loop-line g l = record {
   below : l.line ≤ l.height;
-  workers : All (IsWorker g.F.Folder g.S.Scene.told g.S.Scene.cat l.task.translation.cat l.task.translation.id l.task.translation.plan l.task.packing l.task.rows l.task.step) l.workers;
+  workers : All (IsWorker g.F.Folder g.S.Scene.told g.S.Scene.cat l.task.translation.now.cat l.task.translation.now.id l.task.translation.now.plan l.task.packing l.task.rows l.task.step) l.workers;
   count : length l.workers ≡ length l.fn.workers;
   empty : l.target.pool.entries ≡ [];
-  filled : IsFilled (g.F.Folder.names l.fn.folder) l.task.translation.cat l.task.translation.id l.task.translation.plan l.target l.line l.line 0;
+  filled : IsFilled (g.F.Folder.names l.fn.folder) l.task.translation.now.cat l.task.translation.now.id l.task.translation.now.plan l.target l.line l.line 0;
   name : l.target.name ≡ l.fn.target.name;
   names : g.F.Folder.names l.folder ≡ g.F.Folder.names l.fn.folder;
   folder_later : g.F.Folder.faults l.fn.folder ≤ g.F.Folder.faults l.folder;

@@ -7,9 +7,9 @@ use Rattle.output_copies.proofs.packed.write_all.Given as goal
 -- the workers so far
 abbrev pub invariant-loop-at : goal.invariant-loop-at
 invariant-loop-at g l = record {
-  filled : IsFilled (g.F.Folder.names l.fn.folder) l.task.translation.cat l.task.translation.id l.task.translation.plan l.target (top_of l.task.translation.plan.size.h l.task.rows l.first l.at) (top_of l.task.translation.plan.size.h l.task.rows l.first l.at) 0;
+  filled : IsFilled (g.F.Folder.names l.fn.folder) l.task.translation.now.cat l.task.translation.now.id l.task.translation.now.plan l.target (top_of l.task.translation.now.plan.size.h l.task.rows l.first l.at) (top_of l.task.translation.now.plan.size.h l.task.rows l.first l.at) 0;
   empty : l.target.pool.entries ≡ [];
-  written : AreWritten g.F.Folder g.S.Scene.told g.S.Scene.cat l.task.translation.cat l.task.translation.id l.task.translation.plan l.task.packing l.task.rows l.task.step l.at l.fn.workers l.workers;
+  written : AreWritten g.F.Folder g.S.Scene.told g.S.Scene.cat l.task.translation.now.cat l.task.translation.now.id l.task.translation.now.plan l.task.packing l.task.rows l.task.step l.at l.fn.workers l.workers;
   name : l.target.name ≡ l.fn.target.name;
   names : g.F.Folder.names l.folder ≡ g.F.Folder.names l.fn.folder;
   later : g.F.Folder.faults l.fn.folder ≤ g.F.Folder.faults l.folder;

@@ -1,4 +1,4 @@
-use Rattle.std.proofs.Common.{◌≡◌, ◌∙◌, ◌≤◌, ap, refl, sym, subst, arith, ℕ, Err, Ok, Option, Result}
+use Rattle.std.proofs.Common.{◌≡◌, ◌∙◌, ◌≤◌, ap, refl, rules, sym, subst, arith, ℕ, Err, Ok, Option, Result}
 use Rattle.std.specs.Prelude.{IfErr}
 use Rattle.outside.specs.Outside.{Files}
 use Rattle.error_lines.specs.declared.faults.Fault.{Fault}
@@ -12,7 +12,7 @@ pub write_portion-requires-clause-made : goal.write_portion-requires-clause-made
 write_portion-requires-clause-made g c κs within =
     let t = c.args.task.now.translation.now in
     subst (λ (o : Option Files). AreMade o t.cat t.id t.plan c.args.task.now.packing c.args.portion.top c.args.worker.now.desk.packed.items c.args.portion.end c.args.portion.end 0) c.requires.told
-    (c.requires.done.made (sym c.replace-answer.ensures.value ∙ c.in_ok-answer.was))
+    (let ok : c.replace-answer.result ≡ Ok tt = search rules in c.requires.done.made (sym c.replace-answer.ensures.value ∙ ok))
 
 pub returns-in_err-answer-clause-ends : goal.returns-in_err-answer-clause-ends
 returns-in_err-answer-clause-ends g c = λ before ends.
