@@ -1,4 +1,4 @@
-// A translation whose lines several workers make and pack beside each other.
+// A translation whose lines, or columns, several workers make and pack beside each other.
 ghost use Rattle.std.specs.Prelude.{◌≡◌, ◌≢◌, ◌<◌, ◌≤◌, ◌++◌, [], IfErr, IfSome, OnErr, OnOk, Some, slice_get, true};
 ghost use Rattle.outside.specs.Outside.{Files};
 ghost use Rattle.translate_plan.specs.declared.options.Driver.TheVariants.{Vrt};
@@ -20,7 +20,6 @@ use crate::packed::copy_packed;
 use crate::worker::{Task, dismiss, hire};
 use crate::writing::Writing;
 use error_lines::Fault;
-use lane_teams::WorkerCount;
 use outside::{Counter, Folder, Sink};
 use shared_lines::{Lines, Scene};
 use std::sync::ledger::{Blank, Ledger};
@@ -28,30 +27,23 @@ use std::thread::Threads;
 use strip_copies::{Portions, Translation, portions};
 use write_back::{Packing, Target};
 
-// How many workers are hired, and how many blocks the lane of each of them holds.
-#[derive(Clone, Copy)]
-struct Hiring {
-    workers: WorkerCount,
-    blocks: u32,
-}
-
-// Copies all lines of all bands by so many workers, whose views are ended then.
+// Copies all blocks of all bands by so many workers as are asked for, whose views are ended then.
 fn copy_hired<R: Threads + Sync, F: Folder, O: Sink, W: Ledger, S: Scene>(
     rt: &R,
     task: &Task<S>,
     folder: &mut F,
     target: &mut Target<F>,
     out: &mut O,
-    hiring: Hiring,
+    writing: &Writing,
     writes: &mut Counter<W>,
 ) -> Result<(), Fault>
     requires task { IsTask task.now.translation.now.cat task.now.translation.now.id task.now.translation.now.plan
-        task.now.packing task.now.rows task.now.step }
+        task.now.packing task.now.form task.now.rows task.now.step }
     requires walked { WhereTold F.Folder folder.old (λ m. IsWalked m task.now.translation.now.cat) }
     requires told { S.told ≡ F.names folder.old }
     requires scene { S.cat ≡ task.now.translation.now.cat }
-    requires some { 1 ≤ hiring.blocks }
-    requires few { hiring.blocks ≤ most_blocks }
+    requires some { 1 ≤ writing.now.blocks }
+    requires few { writing.now.blocks ≤ most_blocks }
     requires filled { IsFilled (F.names folder.old) task.now.translation.now.cat task.now.translation.now.id
         task.now.translation.now.plan target.old 0 0 0 }
     requires empty { target.old.pool.entries ≡ [] }
@@ -67,34 +59,36 @@ fn copy_hired<R: Threads + Sync, F: Folder, O: Sink, W: Ledger, S: Scene>(
         (O.faults out.new) result }
     ensures changed { IfErr result (TellsChange task.now.translation.now.cat) }
 {
-    let mut workers = hire(task, folder, hiring.workers.get(), hiring.blocks)?;
+    let count = writing.workers.get();
+    let mut workers = hire(task, folder, count, writing.blocks)?;
     let hands = workers.as_mut_slice();
     let copied = copy_packed(rt, task, folder, target, out, hands, writes);
     dismiss(folder, workers);
     copied
 }
 
-/// How lines are packed, and how many of them each worker makes and reads at a time.
+/// How blocks are packed, and how many of them each worker makes and reads at a time.
 #[derive(Drop)]
 pub struct Shares {
     pub packing: Packing,
     pub portions: Portions,
 }
 
-/// How several workers share the lines of a translation; None where one of them copies it, as where the blocks of the
-/// output aren't lines of a band.
+/// How several workers share the output of a translation; None where one of them copies it, as where the samples of
+/// several bands lie pixel by pixel.
 pub fn shares_of(translation: &Translation, writing: &Writing) -> Option<Shares>
     requires translation { IsTranslation translation.now.cat translation.now.id translation.now.plan }
     ensures task { IfSome result (λ s. IsTask translation.now.cat translation.now.id translation.now.plan s.packing
-        s.portions.rows s.portions.step) }
-    ensures held { IfSome result (λ s. s.portions.blocks ≤ most_blocks) }
+        s.portions.form s.portions.rows s.portions.step) }
 {
+    // This call is made for the proof: it says what every plan keeps.
+    translation.plan.rules();
     let packing = Packing::of(&translation.plan)?;
     let portions = portions(translation, writing.workers)?;
     Some(Shares { packing, portions })
 }
 
-/// As `write_files`, by several workers: each packs lines of its own, which are written in their order.
+/// As `write_files`, by several workers: each packs lines, or columns, of its own, which are written in their order.
 pub fn write_packed<R: Threads + Sync, F: Folder, O: Sink, W: Ledger, S: Scene>(
     rt: &R,
     translation: &Translation,
@@ -105,8 +99,7 @@ pub fn write_packed<R: Threads + Sync, F: Folder, O: Sink, W: Ledger, S: Scene>(
     writes: Blank,
 ) -> Result<(), Fault>
     requires task { IsTask translation.now.cat translation.now.id translation.now.plan shares.packing
-        shares.portions.rows shares.portions.step }
-    requires held { shares.portions.blocks ≤ most_blocks }
+        shares.portions.form shares.portions.rows shares.portions.step }
     requires walked { WhereTold F.Folder folder.old (λ m. IsWalked m translation.now.cat) }
     requires told { S.told ≡ F.names folder.old }
     requires scene { S.cat ≡ translation.now.cat }
@@ -134,20 +127,17 @@ pub fn write_packed<R: Threads + Sync, F: Folder, O: Sink, W: Ledger, S: Scene>(
     let task = Task {
         translation,
         packing: shares.packing,
+        form: shares.portions.form,
         rows: shares.portions.rows,
         step: shares.portions.step,
         shared,
         quiet: writing.quiet,
     };
-    let hiring = Hiring {
-        workers: writing.workers,
-        blocks: writing.blocks.max(shares.portions.blocks),
-    };
     let mut writes: Counter<W> = Counter::open(writes);
     let plan = &translation.plan;
     let alloc = translation.alloc;
     let mut target = Target::create(alloc, folder, plan, writing.name, writing.blocks)?;
-    match copy_hired(rt, &task, folder, &mut target, out, hiring, &mut writes) {
+    match copy_hired(rt, &task, folder, &mut target, out, writing, &mut writes) {
         Ok(()) => publish(translation, folder, target, &mut writes),
         Err(fault) => {
             target.give_up(folder);

@@ -1,20 +1,21 @@
-// Workers that make packed lines of an output beside each other.
-ghost use Rattle.std.specs.Prelude.{◌≡◌, ◌<◌, ◌≤◌, IfErr, IfOk, OnOk, length};
+// Workers that make packed blocks of an output, lines or columns, beside each other.
+ghost use Rattle.std.specs.Prelude.{◌≡◌, ◌<◌, ◌≤◌, ◌+◌, IfErr, IfOk, OnOk, length, true};
 ghost use Rattle.std.specs.List.{All};
 ghost use Rattle.outside.specs.Causes.{Rose};
 ghost use Rattle.outside.specs.Reading.{WhereTold};
 ghost use Rattle.catalog.specs.Walk.{IsWalked};
-ghost use Rattle.band_blocks.specs.Blocks.{most_blocks};
+ghost use Rattle.band_blocks.specs.Blocks.{most_blocks, written};
 ghost use Rattle.lane_teams.specs.Ready.{AreLanesFresh};
 ghost use Rattle.strip_copies.specs.Copies.{IsRoomFor, IsTranslation};
 ghost use Rattle.write_back.specs.Forms.{cut_of, AreHeld};
-ghost use Rattle.write_back.specs.Packed.{block_len, in_bytes};
-ghost use Rattle.output_copies.specs.Packed.{AreDone, IsDesk, IsTask, IsWorker, MayAnswer, MayAnswerByViews};
+ghost use Rattle.write_back.specs.Packed.{block_len, in_bytes, IsBlockOf, IsLined};
+ghost use Rattle.output_copies.specs.Packed.{records_in, room_in, AreDone, IsBlockFor, IsDesk, IsTask, IsWorker};
+ghost use Rattle.output_copies.specs.Packed.{MayAnswer, MayAnswerByViews};
 
 use crate::parts::area;
 use band_blocks::Block;
 use error_lines::Fault;
-use geotransform::Sample;
+use geotransform::{PixelType, Sample};
 use lane_teams::{Team, WorkerCount};
 use nearest_window::Lane;
 use outside::Folder;
@@ -23,45 +24,75 @@ use std::alloc::{AllocError, AllocFailed, Global};
 use std::marker::{Brand, Model};
 use std::mem;
 use std::sync::ledger::{Blank, Ledger};
-use strip_copies::{Columns, StripReader, Translation};
+use strip_copies::{Columns, Form, StripReader, Translation};
 use write_back::Packing;
 
-/// The bytes of a line of a band of an output.
+/// The bytes of a block of an output, a line of a band or a column.
 #[derive(Drop)]
-pub struct PackedLine {
+pub struct PackedBlock {
     bytes: Vec<u8>,
 }
 
-impl Model for PackedLine {
+impl Model for PackedBlock {
     ghost use Rattle.std.specs.Prelude.{ℕ, List, vec_items};
 
     ghost Value = { List ℕ };
 
-    ghost view = { λ line. vec_items line.bytes };
+    ghost view = { λ block. vec_items block.bytes };
 }
 
-impl PackedLine {
+impl PackedBlock {
     // Room for so many bytes.
-    fn new(alloc: Global, len: usize) -> Result<PackedLine, AllocError>
-        ensures len { IfOk result (λ line. length line ≡ len) }
+    fn new(alloc: Global, len: usize) -> Result<PackedBlock, AllocError>
+        ensures len { IfOk result (λ block. length block ≡ len) }
     {
         let bytes = vec![in alloc; 0u8; len]?;
-        Ok(PackedLine { bytes })
+        Ok(PackedBlock { bytes })
     }
 
     /// Packs a line's samples, through a block.
     pub fn pack(&mut self, packing: &Packing, samples: &[Sample], block: &mut Block)
-        requires kind { block.old.kind ≡ (cut_of packing.now).kind }
-        requires count { length block.old.samples ≡ (cut_of packing.now).spots }
+        requires lined { IsLined packing.now }
+        requires block { IsBlockFor packing.now block.old }
         requires size { length samples.now ≡ (cut_of packing.now).spots }
         requires range { AreHeld packing.now samples.now }
         requires bytes { length self.old ≡ block_len packing.now }
         ensures packed { in_bytes packing.now self.new ≡ samples.now }
         ensures len { length self.new ≡ length self.old }
-        ensures kind { block.new.kind ≡ block.old.kind }
-        ensures count { length block.new.samples ≡ length block.old.samples }
+        ensures block { IsBlockFor packing.now block.new }
     {
-        packing.pack(samples, block, &mut self.bytes);
+        let bytes = self.bytes.as_mut_slice();
+        packing.pack(samples, block, bytes);
+    }
+
+    /// Packs some samples of a line, of which the first stands in this column, through a block. The others stay.
+    pub fn pack_piece(&mut self, packing: &Packing, x: u32, samples: &[Sample], block: &mut Block)
+        requires lined { IsLined packing.now }
+        requires block { IsBlockFor packing.now block.old }
+        requires within { x + length samples.now ≤ (cut_of packing.now).spots }
+        requires range { AreHeld packing.now samples.now }
+        requires bytes { length self.old ≡ block_len packing.now }
+        ensures packed { in_bytes packing.now self.new ≡ written x samples.now (in_bytes packing.now self.old) }
+        ensures len { length self.new ≡ length self.old }
+        ensures block { IsBlockFor packing.now block.new }
+    {
+        let bytes = self.bytes.as_mut_slice();
+        packing.pack_piece(x, samples, block, bytes);
+    }
+
+    /// Packs a column.
+    pub fn pack_column(&mut self, packing: &Packing, x: u32, column: &Block)
+        requires columns { (cut_of packing.now).by_columns ≡ true }
+        requires column { x < (cut_of packing.now).blocks }
+        requires block { IsBlockFor packing.now column.now }
+        requires range { AreHeld packing.now column.now.samples }
+        requires bytes { length self.old ≡ block_len packing.now }
+        ensures packed { in_bytes packing.now self.new ≡ column.now.samples }
+        ensures whole { IsBlockOf packing.now x self.new }
+        ensures len { length self.new ≡ length self.old }
+    {
+        let bytes = self.bytes.as_mut_slice();
+        packing.pack_column(x, column, bytes);
     }
 
     /// The bytes.
@@ -72,13 +103,15 @@ impl PackedLine {
     }
 }
 
-/// Where a worker makes lines: its view of the folder, room for lines of a band that are read at once, a block through
-/// which they are packed, and the packed lines of a strip, of each line those of its bands.
+/// Where a worker makes blocks: its view of the folder, room for samples that are read at once, a block through which
+/// lines are packed, blocks of columns, where columns are made, and the packed blocks of a portion, of each line those
+/// of its bands.
 pub struct Desk<F: Folder> {
     pub view: F,
     pub room: Vec<Sample>,
     pub block: Block,
-    pub packed: Vec<PackedLine>,
+    pub records: Vec<Block>,
+    pub packed: Vec<PackedBlock>,
 }
 
 /// A worker: its lane, the columns of the source that are read, room for lines of them, its desk, and what it answered.
@@ -90,28 +123,45 @@ pub struct Worker<F: Folder> {
     pub answer: Result<(), Fault>,
 }
 
-/// What workers make: lines of a translation's output, packed so; how many lines each of them makes at a time, and how
-/// many of these it reads at once; the lines that their lanes share, if there are any; and whether nothing is told.
+/// What workers make: lines of a translation's output, or columns, packed so; how many of them each worker makes at a
+/// time, and how much of these it reads at once; the lines that their lanes share, if there are any; and whether nothing
+/// is told.
 #[derive(Drop)]
 pub struct Task<'a, 'b, S: Scene> {
     pub translation: &'a Translation,
     pub packing: Packing,
+    pub form: Form,
     pub rows: u32,
     pub step: u32,
     pub shared: Option<&'b shared_lines::Lines<S>>,
     pub quiet: bool,
 }
 
-// Room for the packed lines of a strip.
-fn packed_room(alloc: Global, count: usize, len: usize) -> Result<Vec<PackedLine>, AllocError>
+// Room for the packed blocks of a portion.
+fn packed_room(alloc: Global, count: usize, len: usize) -> Result<Vec<PackedBlock>, AllocError>
     ensures count { IfOk result (λ packed. length packed.items ≡ count) }
-    ensures each { IfOk result (λ packed. All (λ line. length line ≡ len) packed.items) }
+    ensures each { IfOk result (λ packed. All (λ bytes. length bytes ≡ len) packed.items) }
 {
-    let mut packed = Vec::with_capacity(alloc, count)?;
+    let mut packed = Vec::new(alloc);
     for _at in 0..count {
-        packed.push(PackedLine::new(alloc, len)?)?;
+        let block = PackedBlock::new(alloc, len)?;
+        packed.push(block)?;
     }
     Ok(packed)
+}
+
+// So many blocks of a type and a length.
+fn block_room(alloc: Global, count: u32, kind: PixelType, len: u32) -> Result<Vec<Block>, AllocError>
+    ensures count { IfOk result (λ blocks. length blocks.items ≡ count) }
+    ensures each { IfOk result (λ blocks. All (λ block. (block.kind ≡ kind) × (length block.samples ≡ len))
+        blocks.items) }
+{
+    let mut blocks = Vec::new(alloc);
+    for _at in 0..count {
+        let block = Block::new(alloc, kind, len)?;
+        blocks.push(block)?;
+    }
+    Ok(blocks)
 }
 
 // What a worker reads with, but for the count of its loads.
@@ -158,21 +208,92 @@ fn kit_for<F: Folder, L: Ledger>(
     })
 }
 
-// What a worker needs besides a view: room for lines of a band, a block for a line, and room for packed lines.
-fn desk_rooms<S: Scene>(task: &Task<S>) -> Result<(Vec<Sample>, Block, Vec<PackedLine>), AllocError>
+// What a desk has but for the view.
+#[derive(Drop)]
+struct Rooms {
+    room: Vec<Sample>,
+    block: Block,
+    records: Vec<Block>,
+    packed: Vec<PackedBlock>,
+}
+
+// How many samples a worker has room for at once.
+fn room_len<S: Scene>(task: &Task<S>) -> usize
+    ensures len { result ≡ room_in task.now.form task.now.translation.now.plan task.now.rows task.now.step }
+{
+    match task.form {
+        Form::Lines => area(task.translation.plan.size.w, task.step),
+        Form::Pieces => area(task.step, task.rows),
+        Form::Records => area(task.rows, task.step),
+    }
+}
+
+// How many columns a worker makes at once.
+fn record_count<S: Scene>(task: &Task<S>) -> u32
+    ensures count { result ≡ records_in task.now.form task.now.rows }
+{
+    match task.form {
+        Form::Lines => 0,
+        Form::Pieces => 0,
+        Form::Records => task.rows,
+    }
+}
+
+// The samples of a block: those of a column, or of a line.
+fn spots_of<S: Scene>(task: &Task<S>) -> u32
     requires task { IsTask task.now.translation.now.cat task.now.translation.now.id task.now.translation.now.plan
-        task.now.packing task.now.rows task.now.step }
-    ensures desk { IfOk result (λ d. IsDesk task.now.translation.now.plan task.now.packing task.now.rows task.now.step
-        d.0.items d.1 d.2.items) }
+        task.now.packing task.now.form task.now.rows task.now.step }
+    ensures spots { result ≡ (cut_of task.now.packing).spots }
+{
+    let plan = &task.translation.plan;
+    plan.rules();
+    if task.packing.by_columns() {
+        return plan.size.h;
+    }
+    plan.size.w
+}
+
+/// How many blocks of each band an output has: its columns, or its lines.
+pub fn extent_of<S: Scene>(task: &Task<S>) -> u32
+    requires task { IsTask task.now.translation.now.cat task.now.translation.now.id task.now.translation.now.plan
+        task.now.packing task.now.form task.now.rows task.now.step }
+    ensures extent { result ≡ (cut_of task.now.packing).blocks }
+    ensures some { 1 ≤ result }
+{
+    let plan = &task.translation.plan;
+    plan.rules();
+    if task.packing.by_columns() {
+        return plan.size.w;
+    }
+    plan.size.h
+}
+
+// What a worker needs besides a view: room for samples, a block for a line, blocks for columns, and room for packed
+// blocks.
+fn desk_rooms<S: Scene>(task: &Task<S>) -> Result<Rooms, AllocError>
+    requires task { IsTask task.now.translation.now.cat task.now.translation.now.id task.now.translation.now.plan
+        task.now.packing task.now.form task.now.rows task.now.step }
+    ensures desk { IfOk result (λ d. IsDesk task.now.translation.now.plan task.now.packing task.now.form task.now.rows
+        task.now.step d.room.items d.block d.records.items d.packed.items) }
 {
     let alloc = task.translation.alloc;
     let plan = &task.translation.plan;
-    plan.rules();
-    let room = vec![in alloc; 0; area(plan.size.w, task.step)]?;
-    let block = Block::new(alloc, task.packing.kind(), plan.size.w)?;
+    let kind = task.packing.kind();
+    let spots = spots_of(task);
+    let size = room_len(task);
+    let room = vec![in alloc; 0; size]?;
+    let block = Block::new(alloc, kind, spots)?;
+    let columns = record_count(task);
+    let records = block_room(alloc, columns, kind, spots)?;
     let count = area(task.rows, plan.count());
-    let packed = packed_room(alloc, count, task.packing.line_len())?;
-    Ok((room, block, packed))
+    let len = task.packing.block_len();
+    let packed = packed_room(alloc, count, len)?;
+    Ok(Rooms {
+        room,
+        block,
+        records,
+        packed,
+    })
 }
 
 // A worker with a view of the folder.
@@ -182,27 +303,35 @@ fn hire_one<F: Folder, S: Scene>(
     blocks: u32,
 ) -> Result<Worker<F>, AllocError>
     requires task { IsTask task.now.translation.now.cat task.now.translation.now.id task.now.translation.now.plan
-        task.now.packing task.now.rows task.now.step }
+        task.now.packing task.now.form task.now.rows task.now.step }
     requires walked { WhereTold F.Folder folder.now (λ m. IsWalked m task.now.translation.now.cat) }
     requires told { S.told ≡ F.names folder.now }
     requires scene { S.cat ≡ task.now.translation.now.cat }
     requires some { 1 ≤ blocks }
     requires few { blocks ≤ most_blocks }
     ensures worker { IfOk result (IsWorker F.Folder S.told S.cat task.now.translation.now.cat
-        task.now.translation.now.id task.now.translation.now.plan task.now.packing task.now.rows task.now.step) }
+        task.now.translation.now.id task.now.translation.now.plan task.now.packing task.now.form task.now.rows
+        task.now.step) }
 {
     let kit = kit_for::<F, Brand>(task.translation, blocks, Blank::new(1))?;
-    let (room, block, packed) = desk_rooms(task)?;
+    let rooms = desk_rooms(task)?;
     let view = folder.fork()?;
     let Kit {
         lanes,
         columns,
         samples,
     } = kit;
+    let Rooms {
+        room,
+        block,
+        records,
+        packed,
+    } = rooms;
     let desk = Desk {
         view,
         room,
         block,
+        records,
         packed,
     };
     Ok(Worker {
@@ -231,9 +360,10 @@ fn dismiss_one<F: Folder>(folder: &mut F, worker: Worker<F>)
         view,
         room,
         block,
+        records,
         packed,
     } = desk;
-    drop((room, block, packed));
+    drop((room, block, records, packed));
     folder.absorb(view);
 }
 
@@ -257,9 +387,9 @@ fn renew_one<F: Folder, S: Scene>(
 ) -> Result<(), Fault>
     requires told { S.told ≡ F.names folder.old }
     requires worker { IsWorker F.Folder S.told S.cat task.now.translation.now.cat task.now.translation.now.id
-        task.now.translation.now.plan task.now.packing task.now.rows task.now.step worker.old }
+        task.now.translation.now.plan task.now.packing task.now.form task.now.rows task.now.step worker.old }
     ensures worker { IsWorker F.Folder S.told S.cat task.now.translation.now.cat task.now.translation.now.id
-        task.now.translation.now.plan task.now.packing task.now.rows task.now.step worker.new }
+        task.now.translation.now.plan task.now.packing task.now.form task.now.rows task.now.step worker.new }
     ensures packed { worker.new.desk.packed ≡ worker.old.desk.packed }
     ensures answer { worker.new.answer ≡ worker.old.answer }
     ensures names { F.names folder.new ≡ F.names folder.old }
@@ -286,10 +416,10 @@ pub fn renew<F: Folder, S: Scene>(
 ) -> Result<(), Fault>
     requires told { S.told ≡ F.names folder.old }
     requires done { AreDone F.Folder S.told S.cat task.now.translation.now.cat task.now.translation.now.id
-        task.now.translation.now.plan task.now.packing task.now.rows task.now.step first workers.old }
+        task.now.translation.now.plan task.now.packing task.now.form task.now.rows task.now.step first workers.old }
     requires views { MayAnswerByViews S.told F.Folder workers.old }
     ensures done { AreDone F.Folder S.told S.cat task.now.translation.now.cat task.now.translation.now.id
-        task.now.translation.now.plan task.now.packing task.now.rows task.now.step first workers.new }
+        task.now.translation.now.plan task.now.packing task.now.form task.now.rows task.now.step first workers.new }
     ensures answers { OnOk result (MayAnswer S.told (F.faults folder.old) (F.faults folder.new) workers.new) }
     ensures names { F.names folder.new ≡ F.names folder.old }
     ensures later { F.faults folder.old ≤ F.faults folder.new }
@@ -313,7 +443,7 @@ pub fn hire<F: Folder, S: Scene>(
     blocks: u32,
 ) -> Result<Vec<Worker<F>>, Fault>
     requires task { IsTask task.now.translation.now.cat task.now.translation.now.id task.now.translation.now.plan
-        task.now.packing task.now.rows task.now.step }
+        task.now.packing task.now.form task.now.rows task.now.step }
     requires walked { WhereTold F.Folder folder.old (λ m. IsWalked m task.now.translation.now.cat) }
     requires told { S.told ≡ F.names folder.old }
     requires scene { S.cat ≡ task.now.translation.now.cat }
@@ -321,7 +451,8 @@ pub fn hire<F: Folder, S: Scene>(
     requires few { blocks ≤ most_blocks }
     ensures count { IfOk result (λ workers. length workers.items ≡ count) }
     ensures workers { IfOk result (λ workers. All (IsWorker F.Folder S.told S.cat task.now.translation.now.cat
-        task.now.translation.now.id task.now.translation.now.plan task.now.packing task.now.rows task.now.step)
+        task.now.translation.now.id task.now.translation.now.plan task.now.packing task.now.form task.now.rows
+        task.now.step)
         workers.items) }
     ensures names { F.names folder.new ≡ F.names folder.old }
     ensures later { F.faults folder.old ≤ F.faults folder.new }
