@@ -10,17 +10,19 @@ use Rattle.outside.specs.Causes.{Rose}
 use Rattle.catalog.specs.Drivers.{Dataset}
 use Rattle.translate_plan.specs.Plan.{Planned}
 use Rattle.write_back.specs.declared.forms.Writer.{Writer}
+use Rattle.write_back.specs.Forms.{cut_of}
+use Rattle.strip_copies.specs.declared.portions.Form.{Form}
 use Rattle.error_lines.specs.declared.faults.Fault.{Fault}
 use Rattle.output_copies.specs.declared.worker.Worker.{Worker}
 use Rattle.output_copies.specs.Copying.{MayEnd, TellsChange}
 use Rattle.output_copies.specs.Packed.{top_of, AreDone, AreMade, HasDone, IsWorker, MayAnswer, MayAnswerByViews}
 use Rattle.output_copies.proofs.Ends.{ends_after, ends_by_view, ends_later}
 
--- the first worker's lines begin where all do
+-- the first worker's blocks begin where all do
 pub top_first : (height rows first : ℕ) → first ≤ height → top_of height rows first 0 ≡ first
 top_first height rows first low = let none : 0 * rows ≡ 0 = grind arith in omega (arith, none)
 
--- some lines come with each worker
+-- some blocks come with each worker
 pub top_more : (height rows first n : ℕ) → first < height → 1 ≤ rows → 0 < n → first < top_of height rows first n
 top_more height rows first n less some any =
     let back : n - 1 + 1 ≡ n = omega arith in
@@ -28,9 +30,9 @@ top_more height rows first n less some any =
     let f : n * rows ≡ (n - 1 + 1) * rows = ap (λ k. k * rows) (sym back) in
     omega (arith, e, f)
 
-module _ {F File Draft : Type 0} (calls : Ghosts F File Draft) (told : Option Files) (scene cat : List Dataset) (id : ℕ) (p : Planned) (w : Writer) (rows step : ℕ) where
+module _ {F File Draft : Type 0} (calls : Ghosts F File Draft) (told : Option Files) (scene cat : List Dataset) (id : ℕ) (p : Planned) (w : Writer) (form : Form) (rows step : ℕ) where
   -- a worker with another view has done what it had
-  pub done_renewed : (top end : ℕ) (x y : Worker F File Draft) → HasDone calls told scene cat id p w rows step top end x → IsWorker calls told scene cat id p w rows step y → y.desk.packed ≡ x.desk.packed → y.answer ≡ x.answer → HasDone calls told scene cat id p w rows step top end y
+  pub done_renewed : (top end : ℕ) (x y : Worker F File Draft) → HasDone calls told scene cat id p w form rows step top end x → IsWorker calls told scene cat id p w form rows step y → y.desk.packed ≡ x.desk.packed → y.answer ≡ x.answer → HasDone calls told scene cat id p w form rows step top end y
   done_renewed top end x y done worker packed answer = record {
     worker = worker;
     made = λ ok. subst (λ (ls : List (List ℕ)). AreMade told cat id p w top ls end end 0) (ap (λ v. v.items) (sym packed)) (done.made (sym answer ∙ ok));
@@ -38,47 +40,47 @@ module _ {F File Draft : Type 0} (calls : Ghosts F File Draft) (told : Option Fi
   }
 
   -- workers of which one got another view have done what they had
-  pub all_renewed : (first at : ℕ) (workers : List (Worker F File Draft)) (y : Worker F File Draft) → at < length workers → AreDone calls told scene cat id p w rows step first workers → IsWorker calls told scene cat id p w rows step y → y.desk.packed ≡ (get_or workers at y).desk.packed → y.answer ≡ (get_or workers at y).answer
-      → AreDone calls told scene cat id p w rows step first (slice_set workers at y)
+  pub all_renewed : (first at : ℕ) (workers : List (Worker F File Draft)) (y : Worker F File Draft) → at < length workers → AreDone calls told scene cat id p w form rows step first workers → IsWorker calls told scene cat id p w form rows step y → y.desk.packed ≡ (get_or workers at y).desk.packed → y.answer ≡ (get_or workers at y).answer
+      → AreDone calls told scene cat id p w form rows step first (slice_set workers at y)
   all_renewed first at workers y within done worker packed answer i d less = elim (cases_lt i at) [
-    | inl before ↦ subst (HasDone calls told scene cat id p w rows step (top_of p.size.h rows first i) (top_of p.size.h rows first (i + 1))) (sym (get_or-set_other workers at i y d (λ same. absurd (omega arith)))) (done i d (omega (arith, length-set workers at y)))
+    | inl before ↦ subst (HasDone calls told scene cat id p w form rows step (top_of (cut_of w).blocks rows first i) (top_of (cut_of w).blocks rows first (i + 1))) (sym (get_or-set_other workers at i y d (λ same. absurd (omega arith)))) (done i d (omega (arith, length-set workers at y)))
     | inr behind ↦ elim (cases_lt at i) [
-      | inl after ↦ subst (HasDone calls told scene cat id p w rows step (top_of p.size.h rows first i) (top_of p.size.h rows first (i + 1))) (sym (get_or-set_other workers at i y d (λ same. absurd (omega arith)))) (done i d (omega (arith, length-set workers at y)))
+      | inl after ↦ subst (HasDone calls told scene cat id p w form rows step (top_of (cut_of w).blocks rows first i) (top_of (cut_of w).blocks rows first (i + 1))) (sym (get_or-set_other workers at i y d (λ same. absurd (omega arith)))) (done i d (omega (arith, length-set workers at y)))
       | inr last ↦ (
           let same : at ≡ i = omega arith in
-          subst (λ n. HasDone calls told scene cat id p w rows step (top_of p.size.h rows first n) (top_of p.size.h rows first (n + 1)) (get_or (slice_set workers at y) n d)) same
-          (subst (HasDone calls told scene cat id p w rows step (top_of p.size.h rows first at) (top_of p.size.h rows first (at + 1))) (sym (get_or-set_same workers at y d within))
-          (done_renewed (top_of p.size.h rows first at) (top_of p.size.h rows first (at + 1)) (get_or workers at y) y (done at y within) worker packed answer))
+          subst (λ n. HasDone calls told scene cat id p w form rows step (top_of (cut_of w).blocks rows first n) (top_of (cut_of w).blocks rows first (n + 1)) (get_or (slice_set workers at y) n d)) same
+          (subst (HasDone calls told scene cat id p w form rows step (top_of (cut_of w).blocks rows first at) (top_of (cut_of w).blocks rows first (at + 1))) (sym (get_or-set_same workers at y d within))
+          (done_renewed (top_of (cut_of w).blocks rows first at) (top_of (cut_of w).blocks rows first (at + 1)) (get_or workers at y) y (done at y within) worker packed answer))
           )
     ]
   ]
 
-  -- all that have done their lines may make others
-  pub all_ready : (first : ℕ) (workers : List (Worker F File Draft)) → AreDone calls told scene cat id p w rows step first workers → All (IsWorker calls told scene cat id p w rows step) workers
+  -- all that have made their blocks may make others
+  pub all_ready : (first : ℕ) (workers : List (Worker F File Draft)) → AreDone calls told scene cat id p w form rows step first workers → All (IsWorker calls told scene cat id p w form rows step) workers
   all_ready first workers done i d less = (done i d less).worker
 
   -- workers of which the first ones were written: each may make other lines, and the others are as they were
   pub record AreWritten (at : ℕ) (were workers : List (Worker F File Draft)) : Type 0 where
     pub count : length workers ≡ length were
-    pub ready : (i : ℕ) (d : Worker F File Draft) → i < at → i < length workers → IsWorker calls told scene cat id p w rows step (get_or workers i d)
+    pub ready : (i : ℕ) (d : Worker F File Draft) → i < at → i < length workers → IsWorker calls told scene cat id p w form rows step (get_or workers i d)
     pub rest : (i : ℕ) (d : Worker F File Draft) → at ≤ i → get_or workers i d ≡ get_or were i d
 
   -- one more was written
-  pub written_more : (at : ℕ) (were workers : List (Worker F File Draft)) (x : Worker F File Draft) → at < length workers → IsWorker calls told scene cat id p w rows step x → AreWritten at were workers → AreWritten (at + 1) were (slice_set workers at x)
+  pub written_more : (at : ℕ) (were workers : List (Worker F File Draft)) (x : Worker F File Draft) → at < length workers → IsWorker calls told scene cat id p w form rows step x → AreWritten at were workers → AreWritten (at + 1) were (slice_set workers at x)
   written_more at were workers x within worker before = record {
     count = length-set workers at x ∙ before.count;
     ready = λ i d early less. elim (cases_lt i at) [
-      | inl earlier ↦ subst (IsWorker calls told scene cat id p w rows step) (sym (get_or-set_other workers at i x d (λ same. absurd (omega arith)))) (before.ready i d earlier (omega (arith, length-set workers at x)))
-      | inr here ↦ (let same : at ≡ i = omega arith in subst (λ n. IsWorker calls told scene cat id p w rows step (get_or (slice_set workers at x) n d)) same (subst (IsWorker calls told scene cat id p w rows step) (sym (get_or-set_same workers at x d within)) worker))
+      | inl earlier ↦ subst (IsWorker calls told scene cat id p w form rows step) (sym (get_or-set_other workers at i x d (λ same. absurd (omega arith)))) (before.ready i d earlier (omega (arith, length-set workers at x)))
+      | inr here ↦ (let same : at ≡ i = omega arith in subst (λ n. IsWorker calls told scene cat id p w form rows step (get_or (slice_set workers at x) n d)) same (subst (IsWorker calls told scene cat id p w form rows step) (sym (get_or-set_same workers at x d within)) worker))
     ];
     rest = λ i d behind. get_or-set_other workers at i x d (λ same. absurd (omega arith)) ∙ before.rest i d (omega arith);
   }
 
-  -- all are ready again, where those that weren't written had done their lines
-  pub written_ready : (first at : ℕ) (were workers : List (Worker F File Draft)) → AreDone calls told scene cat id p w rows step first were → AreWritten at were workers → All (IsWorker calls told scene cat id p w rows step) workers
+  -- all are ready again, where those that weren't written had made their blocks
+  pub written_ready : (first at : ℕ) (were workers : List (Worker F File Draft)) → AreDone calls told scene cat id p w form rows step first were → AreWritten at were workers → All (IsWorker calls told scene cat id p w form rows step) workers
   written_ready first at were workers done all i d less = elim (cases_lt i at) [
     | inl early ↦ all.ready i d early less
-    | inr late ↦ subst (IsWorker calls told scene cat id p w rows step) (sym (all.rest i d late)) (done i d (omega (arith, all.count, less))).worker
+    | inr late ↦ subst (IsWorker calls told scene cat id p w form rows step) (sym (all.rest i d late)) (done i d (omega (arith, all.count, less))).worker
   ]
 
 -- the answers of the workers whose views were ended, of n of them

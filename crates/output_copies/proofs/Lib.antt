@@ -2,8 +2,10 @@ pub mod Alike
 mod Beside
 mod Calls
 pub mod Changes
+mod Columned
 pub mod Copied
 pub mod Ends
+pub mod Fronts
 pub mod Goes
 pub mod Hands
 pub mod Packs

@@ -356,10 +356,10 @@ fn make_counted<R: Threads + Sync, F: Folder, L: Ledger, S: Scene>(
     } = reader;
     let Team { lanes, loads } = team;
     drop(loads);
-    drop(mem::replace(&mut worker.lanes, lanes));
-    drop(mem::replace(&mut worker.columns, columns));
-    drop(mem::replace(&mut worker.samples, samples));
-    drop(mem::replace(&mut worker.answer, answer));
+    worker.lanes = lanes;
+    worker.columns = columns;
+    worker.samples = samples;
+    worker.answer = answer;
 }
 
 // A worker makes its blocks. Nobody counts its loads.

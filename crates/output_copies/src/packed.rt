@@ -1,5 +1,5 @@
-// Outputs whose blocks, lines or columns, several workers make and pack beside each other, and one thread writes in their
-// order.
+// Outputs whose blocks, lines or columns, several workers make and pack beside each other, and one thread writes in
+// their order.
 ghost use Rattle.std.specs.Prelude.{◌≡◌, ◌<◌, ◌≤◌, ◌+◌, ◌*◌, [], ℕ, IfErr, OnErr, OnOk, false, length, true};
 ghost use Rattle.std.specs.List.{All};
 ghost use Rattle.outside.specs.Streams.{Gets, GetsPart};
@@ -245,14 +245,9 @@ fn write_made<F: Folder, W: Ledger, S: Scene>(
 {
     let answer = mem::replace(&mut worker.answer, Ok(()));
     answer?;
-    write_portion(
-        task,
-        folder,
-        target,
-        portion,
-        worker.desk.packed.as_slice(),
-        writes,
-    )
+    let desk = &worker.desk;
+    let packed = desk.packed.as_slice();
+    write_portion(task, folder, target, portion, packed, writes)
 }
 
 // Writes what each worker has made of the blocks from one on, in their order. The first refusal among them is answered.

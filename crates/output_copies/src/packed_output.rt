@@ -124,12 +124,13 @@ pub fn write_packed<R: Threads + Sync, F: Folder, O: Sink, W: Ledger, S: Scene>(
 {
     let made: Option<Lines<S>> = lines_of(translation, folder, writing);
     let shared = made.as_ref();
+    let Shares { packing, portions } = shares;
     let task = Task {
         translation,
-        packing: shares.packing,
-        form: shares.portions.form,
-        rows: shares.portions.rows,
-        step: shares.portions.step,
+        packing,
+        form: portions.form,
+        rows: portions.rows,
+        step: portions.step,
         shared,
         quiet: writing.quiet,
     };

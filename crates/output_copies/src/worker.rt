@@ -124,8 +124,8 @@ pub struct Worker<F: Folder> {
 }
 
 /// What workers make: lines of a translation's output, or columns, packed so; how many of them each worker makes at a
-/// time, and how much of these it reads at once; the lines that their lanes share, if there are any; and whether nothing
-/// is told.
+/// time, and how much of these it reads at once; the lines that their lanes share, if there are any; and whether
+/// nothing is told.
 #[derive(Drop)]
 pub struct Task<'a, 'b, S: Scene> {
     pub translation: &'a Translation,
@@ -402,7 +402,8 @@ fn renew_one<F: Folder, S: Scene>(
     let Ok(view) = folder.fork() else {
         return Err(Fault::Memory);
     };
-    let used = mem::replace(&mut worker.desk.view, view);
+    let desk = &mut worker.desk;
+    let used = mem::replace(&mut desk.view, view);
     folder.absorb(used);
     Ok(())
 }

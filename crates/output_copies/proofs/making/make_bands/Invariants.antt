@@ -9,7 +9,7 @@ abbrev pub invariant-loop-band : goal.invariant-loop-band
 invariant-loop-band g l = record {
   ready : AreLanesReady g.F.Folder g.S.Scene.told g.S.Scene.cat l.desk.view l.task.translation.now.cat l.reader.team.lanes.items;
   room : IsRoomFor l.task.translation.now.cat l.task.translation.now.id l.task.translation.now.plan l.reader.columns l.reader.samples.items;
-  desk : IsDesk l.task.translation.now.plan l.task.packing l.task.rows l.task.step l.desk.room.items l.desk.block l.desk.packed.items;
+  desk : IsDesk l.task.translation.now.plan l.task.packing l.task.form l.task.rows l.task.step l.desk.room.items l.desk.block l.desk.records.items l.desk.packed.items;
   made : AreMade g.S.Scene.told l.task.translation.now.cat l.task.translation.now.id l.task.translation.now.plan l.task.packing l.top l.desk.packed.items l.portion.top l.portion.end l.band;
   size : length l.desk.room.items ≡ length l.fn.desk.room.items;
   names : g.F.Folder.names l.desk.view ≡ g.F.Folder.names l.fn.desk.view;

@@ -1,7 +1,7 @@
-use Rattle.std.proofs.Common.{◌≡◌, ◌≤◌, ◌+◌, ◌-◌, ◌*◌, refl, arith, subst, ℕ}
+use Rattle.std.proofs.Common.{◌≡◌, ◌≤◌, ◌+◌, ◌-◌, ◌*◌, refl, arith, length, subst, ℕ}
 use Rattle.std.proofs.Math.Nat.{mul-le-mul}
 use Rattle.output_copies.specs.Copying.{TellsChange}
-use Rattle.output_copies.specs.Packed.{AreMade}
+use Rattle.output_copies.specs.Packed.{room_in, AreMade}
 use Rattle.output_copies.proofs.Changes.{handed_on}
 use Rattle.output_copies.proofs.Packs.{made_none}
 use Rattle.output_copies.proofs.making.make_portion.Goals as goal
@@ -22,10 +22,11 @@ loop-line-init g c =
 
 pub make_bands-requires-clause-long : goal.make_bands-requires-clause-long
 make_bands-requires-clause-long g c κs within =
-    let w = c.args.task.now.translation.now.plan.size.w in
+    let p = c.args.task.now.translation.now.plan in
     let few : c.loop-line.line + c.min.result - c.loop-line.line ≤ c.args.task.now.step = omega (arith, c.min.ensures) in
     let less : c.args.task.now.translation.now.plan.size.w * (c.loop-line.line + c.min.result - c.loop-line.line) ≤ c.args.task.now.translation.now.plan.size.w * c.args.task.now.step = mul-le-mul (omega arith) few in
-    omega (arith, less, c.loop-line.invariant.desk.wide)
+    let wide : c.args.task.now.translation.now.plan.size.w * c.args.task.now.step ≤ length c.loop-line.desk.room.items = subst (λ f. room_in f p c.args.task.now.rows c.args.task.now.step ≤ length c.loop-line.desk.room.items) c.requires.lines c.loop-line.invariant.desk.wide in
+    omega (arith, less, wide)
 
 pub returns-clause-made : goal.returns-clause-made
 returns-clause-made g c =

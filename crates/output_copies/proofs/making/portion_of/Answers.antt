@@ -1,9 +1,8 @@
-use Rattle.std.proofs.Common.{◌≡◌, ◌+◌, ◌*◌, ℕ, ap, arith}
-use Rattle.translate_plan.specs.Plan.{Planned}
+use Rattle.std.proofs.Common.{◌≡◌, ◌+◌, ◌*◌, ℕ, arith}
 use Rattle.output_copies.proofs.making.portion_of.Goals as goal
 
 next_rows : (at rows : ℕ) → (at + 1) * rows ≡ at * rows + rows
 next_rows at rows = grind arith
 
 pub returns-clause-end : goal.returns-clause-end
-returns-clause-end c = let e = next_rows c.args.at c.args.rows in omega (arith, e, c.min-top.ensures, c.min-end.ensures, ap (λ (p : Planned). p.size.h) c.plan.view_is)
+returns-clause-end c = let e = next_rows c.args.at c.args.rows in omega (arith, e, c.min-top.ensures, c.min-end.ensures)

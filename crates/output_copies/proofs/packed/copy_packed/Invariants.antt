@@ -10,7 +10,7 @@ use Rattle.output_copies.proofs.packed.copy_packed.Given as goal
 abbrev pub invariant-loop-line : goal.invariant-loop-line
 invariant-loop-line g l = record {
   below : l.line ≤ l.height;
-  workers : All (IsWorker g.F.Folder g.S.Scene.told g.S.Scene.cat l.task.translation.now.cat l.task.translation.now.id l.task.translation.now.plan l.task.packing l.task.rows l.task.step) l.workers;
+  workers : All (IsWorker g.F.Folder g.S.Scene.told g.S.Scene.cat l.task.translation.now.cat l.task.translation.now.id l.task.translation.now.plan l.task.packing l.task.form l.task.rows l.task.step) l.workers;
   count : length l.workers ≡ length l.fn.workers;
   empty : l.target.pool.entries ≡ [];
   filled : IsFilled (g.F.Folder.names l.fn.folder) l.task.translation.now.cat l.task.translation.now.id l.task.translation.now.plan l.target l.line l.line 0;

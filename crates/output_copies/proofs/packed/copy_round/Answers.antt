@@ -13,7 +13,7 @@ use Rattle.output_copies.proofs.packed.copy_round.Goals as goal
 pub returns-in_err-renew-clause-workers : goal.returns-in_err-renew-clause-workers
 returns-in_err-renew-clause-workers g c =
     let t = c.args.task.now.translation.now in
-    all_ready g.F.Folder g.S.Scene.told g.S.Scene.cat t.cat t.id t.plan c.args.task.now.packing c.args.task.now.rows c.args.task.now.step c.args.first c.renew.new.workers c.in_err-renew.ensures.done
+    all_ready g.F.Folder g.S.Scene.told g.S.Scene.cat t.cat t.id t.plan c.args.task.now.packing c.args.task.now.form c.args.task.now.rows c.args.task.now.step c.args.first c.renew.new.workers c.in_err-renew.ensures.done
 
 pub returns-in_err-renew-clause-ends : goal.returns-in_err-renew-clause-ends
 returns-in_err-renew-clause-ends g c =

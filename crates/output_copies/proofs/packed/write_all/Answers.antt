@@ -43,13 +43,13 @@ returns-clause-ends g c = λ before early answers. ends_ok tt (g.F.Folder.names 
 pub returns-clause-workers : goal.returns-clause-workers
 returns-clause-workers g c =
     let t = c.args.task.now.translation.now in
-    written_ready g.F.Folder g.S.Scene.told g.S.Scene.cat t.cat t.id t.plan c.args.task.now.packing c.args.task.now.rows c.args.task.now.step c.args.first c.loop-at.at c.args.workers.now c.loop-at.workers c.requires.done c.loop-at.invariant.written
+    written_ready g.F.Folder g.S.Scene.told g.S.Scene.cat t.cat t.id t.plan c.args.task.now.packing c.args.task.now.form c.args.task.now.rows c.args.task.now.step c.args.first c.loop-at.at c.args.workers.now c.loop-at.workers c.requires.done c.loop-at.invariant.written
 
 pub returns-in_err-write_made-clause-workers : goal.returns-in_err-write_made-clause-workers
 returns-in_err-write_made-clause-workers g c =
     let t = c.args.task.now.translation.now in
-    written_ready g.F.Folder g.S.Scene.told g.S.Scene.cat t.cat t.id t.plan c.args.task.now.packing c.args.task.now.rows c.args.task.now.step c.args.first (c.loop-at.at + 1) c.args.workers.now (slice_set c.loop-at.workers c.loop-at.at c.write_made.new.worker) c.requires.done
-    (written_more g.F.Folder g.S.Scene.told g.S.Scene.cat t.cat t.id t.plan c.args.task.now.packing c.args.task.now.rows c.args.task.now.step c.loop-at.at c.args.workers.now c.loop-at.workers c.write_made.new.worker c.loop-at-test.true c.write_made.ensures.worker c.loop-at.invariant.written)
+    written_ready g.F.Folder g.S.Scene.told g.S.Scene.cat t.cat t.id t.plan c.args.task.now.packing c.args.task.now.form c.args.task.now.rows c.args.task.now.step c.args.first (c.loop-at.at + 1) c.args.workers.now (slice_set c.loop-at.workers c.loop-at.at c.write_made.new.worker) c.requires.done
+    (written_more g.F.Folder g.S.Scene.told g.S.Scene.cat t.cat t.id t.plan c.args.task.now.packing c.args.task.now.form c.args.task.now.rows c.args.task.now.step c.loop-at.at c.args.workers.now c.loop-at.workers c.write_made.new.worker c.loop-at-test.true c.write_made.ensures.worker c.loop-at.invariant.written)
 
 pub loop-at-preserved : goal.loop-at-preserved
 loop-at-preserved g c =
@@ -60,7 +60,7 @@ loop-at-preserved g c =
       filled = subst (λ (n : Option Files). IsFilled n t.cat t.id t.plan c.write_made.new.target (top_of t.plan.size.h c.args.task.now.rows c.args.first (c.loop-at.at + 1)) (top_of t.plan.size.h c.args.task.now.rows c.args.first (c.loop-at.at + 1)) 0) (o.names ∙ so_far.names)
           (subst (λ (n : ℕ). IsFilled (g.F.Folder.names c.write_made.new.folder) t.cat t.id t.plan c.write_made.new.target n n 0) c.portion_of-portion.ensures.end o.filled);
       empty = o.empty;
-      written = written_more g.F.Folder g.S.Scene.told g.S.Scene.cat t.cat t.id t.plan c.args.task.now.packing c.args.task.now.rows c.args.task.now.step c.loop-at.at c.args.workers.now c.loop-at.workers c.write_made.new.worker c.loop-at-test.true o.worker so_far.written;
+      written = written_more g.F.Folder g.S.Scene.told g.S.Scene.cat t.cat t.id t.plan c.args.task.now.packing c.args.task.now.form c.args.task.now.rows c.args.task.now.step c.loop-at.at c.args.workers.now c.loop-at.workers c.write_made.new.worker c.loop-at-test.true o.worker so_far.written;
       name = o.name ∙ so_far.name;
       names = o.names ∙ so_far.names;
       later = omega (arith, so_far.later, o.later);

@@ -9,7 +9,7 @@ abbrev pub invariant-loop-at : goal.invariant-loop-at
 invariant-loop-at g l = record {
   filled : IsFilled (g.F.Folder.names l.fn.folder) l.task.translation.now.cat l.task.translation.now.id l.task.translation.now.plan l.target (top_of l.task.translation.now.plan.size.h l.task.rows l.first l.at) (top_of l.task.translation.now.plan.size.h l.task.rows l.first l.at) 0;
   empty : l.target.pool.entries ≡ [];
-  written : AreWritten g.F.Folder g.S.Scene.told g.S.Scene.cat l.task.translation.now.cat l.task.translation.now.id l.task.translation.now.plan l.task.packing l.task.rows l.task.step l.at l.fn.workers l.workers;
+  written : AreWritten g.F.Folder g.S.Scene.told g.S.Scene.cat l.task.translation.now.cat l.task.translation.now.id l.task.translation.now.plan l.task.packing l.task.form l.task.rows l.task.step l.at l.fn.workers l.workers;
   name : l.target.name ≡ l.fn.target.name;
   names : g.F.Folder.names l.folder ≡ g.F.Folder.names l.fn.folder;
   later : g.F.Folder.faults l.fn.folder ≤ g.F.Folder.faults l.folder;

@@ -11,8 +11,8 @@ loop-at-preserved g c =
     let items = c.in_default-push.ensures.items in
     record {
       count = ap length items ∙ length_push c.loop-at.workers.items _ ∙ ap (λ n. n + 1) was.count;
-      workers = All-same (IsWorker g.F.Folder g.S.Scene.told g.S.Scene.cat t.cat t.id t.plan c.args.task.now.packing c.args.task.now.rows c.args.task.now.step) _ _ items
-          (All-push (IsWorker g.F.Folder g.S.Scene.told g.S.Scene.cat t.cat t.id t.plan c.args.task.now.packing c.args.task.now.rows c.args.task.now.step) c.loop-at.workers.items _ was.workers c.in-Ok.ensures.worker);
+      workers = All-same (IsWorker g.F.Folder g.S.Scene.told g.S.Scene.cat t.cat t.id t.plan c.args.task.now.packing c.args.task.now.form c.args.task.now.rows c.args.task.now.step) _ _ items
+          (All-push (IsWorker g.F.Folder g.S.Scene.told g.S.Scene.cat t.cat t.id t.plan c.args.task.now.packing c.args.task.now.form c.args.task.now.rows c.args.task.now.step) c.loop-at.workers.items _ was.workers c.in-Ok.ensures.worker);
       names = was.names;
       later = was.later;
     }

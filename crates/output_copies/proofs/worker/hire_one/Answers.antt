@@ -8,5 +8,5 @@ returns-clause-worker g c =
     record {
       ready = lanes_begin g.F.Folder g.S.Scene.told g.S.Scene.cat c.args.task.now.translation.now.cat _ c.in_ok-view.view (c.requires.told ∙ sym same) c.requires.scene (λ m is. c.requires.walked m (sym same ∙ is)) c.in_ok-kit.ensures.fresh;
       room_for = c.in_ok-kit.ensures.room;
-      desk = c.in_ok-room.ensures.desk;
+      desk = c.in_ok-rooms.ensures.desk;
     }
