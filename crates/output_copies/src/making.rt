@@ -1,5 +1,5 @@
 // Blocks of an output, lines or columns, that workers make and pack beside each other.
-ghost use Rattle.std.specs.Prelude.{◌≡◌, ◌<◌, ◌≤◌, ◌+◌, ◌-◌, ◌*◌, ℕ, IfErr, OnOk, length};
+ghost use Rattle.std.specs.Prelude.{◌≡◌, ◌≢◌, ◌<◌, ◌≤◌, ◌+◌, ◌-◌, ◌*◌, ℕ, IfErr, OnOk, false, length, true};
 ghost use Rattle.std.specs.List.{All};
 ghost use Rattle.std.specs.Thread.{IsSend, IsSync};
 ghost use Rattle.lane_teams.specs.Ready.{AreLanesReady};
@@ -34,6 +34,16 @@ use strip_copies::{Columns, Form, Lines, StripReader};
 pub struct Portion {
     pub top: u32,
     pub end: u32,
+}
+
+impl Portion {
+    /// Whether there are none.
+    pub fn is_empty(self) -> bool
+        ensures empty { result ≡ true → self.top ≡ self.end }
+        ensures some { result ≡ false → self.top ≢ self.end }
+    {
+        self.top == self.end
+    }
 }
 
 /// The blocks that a worker makes, by its number: of so many of a band so many for each, from one on, as far as there

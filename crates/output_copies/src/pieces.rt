@@ -1,5 +1,5 @@
 // Lines of an output over a cell, which a worker makes some columns at a time.
-ghost use Rattle.std.specs.Prelude.{◌≡◌, ◌<◌, ◌≤◌, ◌+◌, ◌-◌, ◌*◌, IfErr, OnOk, length};
+ghost use Rattle.std.specs.Prelude.{◌≡◌, ◌<◌, ◌≤◌, ◌+◌, ◌-◌, ◌*◌, IfErr, OnOk, false, length};
 ghost use Rattle.lane_teams.specs.Ready.{AreLanesReady};
 ghost use Rattle.strip_copies.specs.declared.portions.Form.TheVariants.{Pieces};
 ghost use Rattle.strip_copies.specs.Copies.{IsRoomFor};
@@ -276,7 +276,7 @@ pub fn make_pieces<R: Threads + Sync, F: Folder, L: Ledger, S: Scene>(
     ensures ends { MayEnd S.told (F.faults desk.old.view) (F.faults desk.new.view) 0 0 result }
     ensures changed { IfErr result (TellsChange task.now.translation.now.cat) }
 {
-    if portion.top == portion.end {
+    if portion.is_empty() {
         return Ok(());
     }
     make_all_bands(rt, task, reader, desk, portion)

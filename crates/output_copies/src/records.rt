@@ -48,10 +48,10 @@ fn put_column<S: Scene>(
 {
     // This call is made for the proof: it says what every plan keeps.
     task.translation.plan.rules();
-    let wide = (piece.right - piece.left) as usize;
+    let wide = piece.right - piece.left;
     for line in piece.first..piece.end {
-        let row = (line - piece.first) as usize;
-        let sample = samples[row * wide + at as usize];
+        let place = place_of(wide, at, line - piece.first);
+        let sample = samples[place];
         column.set(line, sample);
     }
 }
@@ -75,7 +75,8 @@ fn put_columns<S: Scene>(task: &Task<S>, piece: Piece, samples: &[Sample], recor
 {
     let wide = piece.right - piece.left;
     for at in 0..wide {
-        put_column(task, piece, at, samples, &mut records[at as usize]);
+        let column = at as usize;
+        put_column(task, piece, at, samples, &mut records[column]);
     }
 }
 
@@ -225,9 +226,10 @@ fn pack_columns<S: Scene>(task: &Task<S>, portion: Portion, records: &[Block], p
     plan.rules();
     let bands = plan.count();
     for x in portion.top..portion.end {
-        let at = x - portion.top;
-        let place = place_of(bands, 0, at);
-        packed[place].pack_column(&task.packing, x, &records[at as usize]);
+        let row = x - portion.top;
+        let column = &records[row as usize];
+        let place = place_of(bands, 0, row);
+        packed[place].pack_column(&task.packing, x, column);
     }
 }
 
@@ -302,7 +304,7 @@ pub fn make_records<R: Threads + Sync, F: Folder, L: Ledger, S: Scene>(
     ensures ends { MayEnd S.told (F.faults desk.old.view) (F.faults desk.new.view) 0 0 result }
     ensures changed { IfErr result (TellsChange task.now.translation.now.cat) }
 {
-    if portion.top == portion.end {
+    if portion.is_empty() {
         return Ok(());
     }
     make_some(rt, task, reader, desk, portion)

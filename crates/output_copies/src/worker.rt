@@ -343,7 +343,16 @@ fn hire_one<F: Folder, S: Scene>(
     })
 }
 
-// Ends a worker's view, behind its lines.
+// Ends a view: the folder's count takes its failed calls over.
+fn end_view<F: Folder>(folder: &mut F, view: F)
+    ensures names { F.names folder.new ≡ F.names folder.old }
+    ensures later { F.faults folder.old ≤ F.faults folder.new }
+    ensures rose { 1 ≤ F.faults view → Rose (F.faults folder.old) (F.faults folder.new) }
+{
+    folder.absorb(view);
+}
+
+// Ends a worker's view, behind what it made.
 fn dismiss_one<F: Folder>(folder: &mut F, worker: Worker<F>)
     ensures names { F.names folder.new ≡ F.names folder.old }
     ensures later { F.faults folder.old ≤ F.faults folder.new }
@@ -364,7 +373,7 @@ fn dismiss_one<F: Folder>(folder: &mut F, worker: Worker<F>)
         packed,
     } = desk;
     drop((room, block, records, packed));
-    folder.absorb(view);
+    end_view(folder, view);
 }
 
 /// Ends the views of all workers.
@@ -404,7 +413,7 @@ fn renew_one<F: Folder, S: Scene>(
     };
     let desk = &mut worker.desk;
     let used = mem::replace(&mut desk.view, view);
-    folder.absorb(used);
+    end_view(folder, used);
     Ok(())
 }
 
