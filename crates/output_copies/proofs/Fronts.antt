@@ -3,7 +3,7 @@ use Rattle.std.proofs.Common.{◌≡◌, ◌∙◌, ap, sym, subst, ℕ, ℤ, po
 use Rattle.std.specs.Prelude.{slice_get, slice_set}
 use Rattle.std.specs.List.{All}
 use Rattle.std.proofs.lemmas.Bool.{cases_lt}
-use Rattle.std.proofs.lemmas.List.{length-drop, length-take-le, get_or-drop, get_or-set_other, get_or-set_same, get_or-take}
+use Rattle.std.proofs.lemmas.List.{length-drop, length-take-le, get_or_default, get_or-drop, get_or-set_other, get_or-set_same, get_or-take}
 use Rattle.std.proofs.lemmas.List.Elements.{All-drop, All-take}
 use Rattle.std.proofs.lemmas.Nat.{div-mul-add, mod-mul-add, mul-add-lt}
 use Rattle.geotransform.specs.declared.types.Rect.{Rect}
@@ -108,6 +108,10 @@ module _ (told : Option Files) (cat : List Dataset) (id : ℕ) (p : Planned) (co
           )
     ];
   }
+
+-- each sample of a whole block can be held
+pub front_held : (told : Option Files) (cat : List Dataset) (id : ℕ) (p : Planned) (columns : Bool) (band block n : ℕ) (xs : List ℤ) → length xs ≡ n → HoldsFront told cat id p columns band block n xs → All (IsHeldIn p band) xs
+front_held told cat id p columns band block n xs long front = λ i d less. subst (IsHeldIn p band) (get_or_default xs i (pos 0) d less) (front.held i (omega (arith, less, long)))
 
 -- a line of lines that were read
 pub line_front : (told : Option Files) (cat : List Dataset) (id : ℕ) (p : Planned) (lines : Lines) (samples : List ℤ) (y n : ℕ) (xs : List ℤ) → AreRead told cat id p lines samples → lines.first ≤ y → y < lines.end → n ≡ p.size.w → xs ≡ take p.size.w (drop ((y - lines.first) * p.size.w) samples) → HoldsFront told cat id p false lines.band y n xs

@@ -227,7 +227,8 @@ fn pack_columns<S: Scene>(task: &Task<S>, portion: Portion, records: &[Block], p
     let bands = plan.count();
     for x in portion.top..portion.end {
         let row = x - portion.top;
-        let column = &records[row as usize];
+        let at = row as usize;
+        let column = &records[at];
         let place = place_of(bands, 0, row);
         packed[place].pack_column(&task.packing, x, column);
     }

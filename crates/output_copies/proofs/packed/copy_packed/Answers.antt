@@ -4,9 +4,10 @@ use Rattle.outside.specs.Outside.{Files}
 use Rattle.outside.specs.Streams.{Gets, GetsPart}
 use Rattle.error_lines.specs.declared.faults.Fault.{Fault}
 use Rattle.error_lines.specs.Progress.{progress}
+use Rattle.write_back.specs.Forms.{cut_of}
 use Rattle.output_copies.specs.Copying.{spoken, IsFilled, TellsChange}
-use Rattle.translate_plan.specs.Plan.{Planned}
-use Rattle.output_copies.specs.Packed.{top_of}
+use Rattle.output_copies.specs.Packed.{top_of, AreBlocksWritten}
+use Rattle.output_copies.proofs.Columned.{blocks_begin, blocks_end}
 use Rattle.output_copies.proofs.Changes.{handed_on, out_tells}
 use Rattle.output_copies.proofs.Hands.{top_more}
 use Rattle.output_copies.proofs.Ends.{ends_after, ends_beside, ends_so, err_is}
@@ -25,6 +26,8 @@ returns-in_err-told-clause-ends g c =
 
 pub loop-line-init : goal.loop-line-init
 loop-line-init g c =
+    let t = c.args.task.now.translation.now in
+    let w = c.args.task.now.packing in
     let put = c.in_ok-told.ensures.ends (g.F.Folder.names c.args.folder.now) (g.F.Folder.faults c.args.folder.now) in
     let before = g.O.Sink.got c.args.out.now in
     record {
@@ -32,7 +35,7 @@ loop-line-init g c =
       workers = c.requires.workers;
       count = refl;
       empty = c.requires.empty;
-      filled = c.requires.filled;
+      written = blocks_begin (g.F.Folder.names c.args.folder.now) t.cat t.id t.plan w c.rules.ensures.kept c.requires.task.output (cut_of w).by_columns c.args.target.now c.requires.filled;
       name = refl;
       names = refl;
       folder_later = omega arith;
@@ -71,24 +74,38 @@ returns-in_err-told-2-clause-ends g c =
     (omega (arith, before.folder_later, copied)) before.out_later
     (c.in_err-told-2.ensures.ends told (g.F.Folder.faults c.copy_round.new.folder)))
 
+-- the end of the last worker's portion
+last_end : (extent blocks rows first count n end : ℕ) → end ≡ top_of extent rows first (n - 1 + 1) → extent ≡ blocks → count ≡ n - 1 + 1 → top_of blocks rows first count ≡ end
+last_end extent blocks rows first count n end is same all = ap (top_of blocks rows first) all ∙ ap (λ k. top_of k rows first (n - 1 + 1)) (sym same) ∙ sym is
+
+pub copy_round-requires-clause-first : goal.copy_round-requires-clause-first
+copy_round-requires-clause-first g c κs within = omega (arith, c.loop-line-test.true, c.extent_of-height.ensures.extent)
+
+pub copy_round-requires-clause-written : goal.copy_round-requires-clause-written
+copy_round-requires-clause-written g c κs within =
+    let t = c.args.task.now.translation.now in
+    let w = c.args.task.now.packing in
+    subst (λ (o : Option Files). AreBlocksWritten o t.cat t.id t.plan w (cut_of w).by_columns c.loop-line.target c.loop-line.line) (sym c.loop-line.invariant.names) c.loop-line.invariant.written
+
 pub loop-line-preserved : goal.loop-line-preserved
 loop-line-preserved g c =
     let told = g.F.Folder.names c.args.folder.now in
-    let p = c.args.task.now.translation.now.plan in
+    let t = c.args.task.now.translation.now in
+    let w = c.args.task.now.packing in
+    let rows = c.args.task.now.rows in
     let before = c.loop-line.invariant in
     let copied = c.in_ok-copy_round.ensures in
     let put = c.in_ok-told-2.ensures.ends told (g.F.Folder.faults c.copy_round.new.folder) in
-    let names : g.F.Folder.names c.copy_round.new.folder ≡ told = copied.names ∙ before.names in
-    let high : c.plan.inside.size.h ≡ p.size.h = ap (λ (q : Planned). q.size.h) c.plan.view_is in
+    let names : g.F.Folder.names c.copy_round.new.folder ≡ g.F.Folder.names c.args.folder.now = copied.names ∙ before.names in
     let all : length c.loop-line.workers ≡ c.len-count.result - 1 + 1 = omega (arith, before.count, c.requires.some, c.len-count.ensures) in
-    let next : top_of p.size.h c.args.task.now.rows c.loop-line.line (length c.loop-line.workers) ≡ c.portion_of.result.end = ap (top_of p.size.h c.args.task.now.rows c.loop-line.line) all ∙ sym c.portion_of.ensures.end in
+    let next = last_end c.extent_of-height.result (cut_of w).blocks rows c.loop-line.line (length c.loop-line.workers) c.len-count.result c.portion_of.result.end c.portion_of.ensures.end c.extent_of-height.ensures.extent all in
     record {
-      below = omega (arith, c.portion_of.ensures.within, high);
+      below = omega (arith, c.portion_of.ensures.within);
       workers = copied.workers;
       count = c.copy_round.auto.workers ∙ before.count;
       empty = copied.empty;
-      filled = subst (λ (n : ℕ). IsFilled told c.args.task.now.translation.now.cat c.args.task.now.translation.now.id p c.copy_round.new.target n n 0) next
-          (subst (λ (o : Option Files). IsFilled o c.args.task.now.translation.now.cat c.args.task.now.translation.now.id p c.copy_round.new.target (top_of p.size.h c.args.task.now.rows c.loop-line.line (length c.loop-line.workers)) (top_of p.size.h c.args.task.now.rows c.loop-line.line (length c.loop-line.workers)) 0) names copied.filled);
+      written = subst (λ (n : ℕ). AreBlocksWritten (g.F.Folder.names c.args.folder.now) t.cat t.id t.plan w (cut_of w).by_columns c.copy_round.new.target n) next
+          (subst (λ (o : Option Files). AreBlocksWritten o t.cat t.id t.plan w (cut_of w).by_columns c.copy_round.new.target (top_of (cut_of w).blocks rows c.loop-line.line (length c.loop-line.workers))) names copied.written);
       name = copied.name ∙ before.name;
       names = names;
       folder_later = omega (arith, before.folder_later, copied.ends.cause.folder_later);
@@ -125,10 +142,22 @@ returns-in_err-told-2-clause-changed g c =
 
 pub loop-line-smaller : goal.loop-line-smaller
 loop-line-smaller g c =
-    let p = c.args.task.now.translation.now.plan in
+    let w = c.args.task.now.packing in
+    let rows = c.args.task.now.rows in
     let before = c.loop-line.invariant in
+    let extent = c.extent_of-height.ensures.extent in
     let all : length c.loop-line.workers ≡ c.len-count.result - 1 + 1 = omega (arith, before.count, c.requires.some, c.len-count.ensures) in
-    let high : c.plan.inside.size.h ≡ p.size.h = ap (λ (q : Planned). q.size.h) c.plan.view_is in
-    let more = top_more p.size.h c.args.task.now.rows c.loop-line.line (length c.loop-line.workers) (omega (arith, c.loop-line-test.true, high)) c.requires.task.some_rows (omega (arith, before.count, c.requires.some)) in
-    let next : top_of p.size.h c.args.task.now.rows c.loop-line.line (length c.loop-line.workers) ≡ c.portion_of.result.end = ap (top_of p.size.h c.args.task.now.rows c.loop-line.line) all ∙ sym c.portion_of.ensures.end in
-    omega (arith, more, next, high, c.portion_of.ensures.within)
+    let more = top_more (cut_of w).blocks rows c.loop-line.line (length c.loop-line.workers) (omega (arith, c.loop-line-test.true, extent)) c.requires.task.some_rows (omega (arith, before.count, c.requires.some)) in
+    let next = last_end c.extent_of-height.result (cut_of w).blocks rows c.loop-line.line (length c.loop-line.workers) c.len-count.result c.portion_of.result.end c.portion_of.ensures.end extent all in
+    omega (arith, more, next, c.portion_of.ensures.within)
+
+pub returns-clause-filled : goal.returns-clause-filled
+returns-clause-filled g c =
+    let t = c.args.task.now.translation.now in
+    let w = c.args.task.now.packing in
+    let told = g.F.Folder.names c.args.folder.now in
+    let before = c.loop-line.invariant in
+    let all : c.loop-line.line ≡ (cut_of c.args.task.now.packing).blocks = omega (arith, before.below, c.loop-line-test.false, c.extent_of-height.ensures.extent) in
+    subst (λ (o : Option Files). IsFilled o t.cat t.id t.plan c.loop-line.target t.plan.size.h t.plan.size.h 0) (sym before.names)
+    (blocks_end told t.cat t.id t.plan w c.rules.ensures.kept c.requires.task.output c.requires.task.apart (cut_of w).by_columns refl c.loop-line.target
+    (subst (λ (n : ℕ). AreBlocksWritten (g.F.Folder.names c.args.folder.now) t.cat t.id t.plan w (cut_of w).by_columns c.loop-line.target n) all before.written))

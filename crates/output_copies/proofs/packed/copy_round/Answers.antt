@@ -3,8 +3,9 @@ use Rattle.std.specs.Prelude.{OnOk}
 use Rattle.outside.specs.Outside.{Files}
 use Rattle.error_lines.specs.declared.faults.Fault.{Fault}
 use Rattle.error_lines.specs.declared.faults.Fault.TheVariants.{Memory}
-use Rattle.output_copies.specs.Copying.{IsFilled, MayEnd, TellsChange}
-use Rattle.output_copies.specs.Packed.{top_of}
+use Rattle.write_back.specs.Forms.{cut_of}
+use Rattle.output_copies.specs.Copying.{MayEnd, TellsChange}
+use Rattle.output_copies.specs.Packed.{top_of, AreBlocksWritten}
 use Rattle.output_copies.proofs.Changes.{handed_on, memory_tells}
 use Rattle.output_copies.proofs.Ends.{ends_memory, ends_so, err_is}
 use Rattle.output_copies.proofs.Hands.{all_ready}
@@ -33,8 +34,9 @@ returns-clause-ends g c =
     subst (λ (o : Option Files). MayEnd o (g.F.Folder.faults c.args.folder.now) (g.F.Folder.faults c.write_all.new.folder) 0 0 c.write_all.result) c.in_ok-renew.ensures.names
     (c.write_all.ensures.ends (g.F.Folder.faults c.args.folder.now) c.in_ok-renew.ensures.later c.in_ok-renew.ensures.answers)
 
-pub returns-clause-filled : goal.returns-clause-filled
-returns-clause-filled g c =
+pub returns-clause-written : goal.returns-clause-written
+returns-clause-written g c =
     let t = c.args.task.now.translation.now in
-    subst (λ (n : ℕ). OnOk c.write_all.result (IsFilled (g.F.Folder.names c.write_all.new.folder) t.cat t.id t.plan c.write_all.new.target (top_of t.plan.size.h c.args.task.now.rows c.args.first n) (top_of t.plan.size.h c.args.task.now.rows c.args.first n) 0))
-    (c.renew.auto.workers ∙ c.make_all.auto.workers) c.write_all.ensures.filled
+    let w = c.args.task.now.packing in
+    subst (λ (n : ℕ). OnOk c.write_all.result (AreBlocksWritten (g.F.Folder.names c.write_all.new.folder) t.cat t.id t.plan w (cut_of w).by_columns c.write_all.new.target (top_of (cut_of w).blocks c.args.task.now.rows c.args.first n)))
+    (c.renew.auto.workers ∙ c.make_all.auto.workers) c.write_all.ensures.written

@@ -2,8 +2,9 @@ use Rattle.std.proofs.Common.{◌≡◌, ◌∙◌, ◌+◌, ◌≤◌, ◌<◌,
 use Rattle.std.specs.Prelude.{slice_set}
 use Rattle.outside.specs.Outside.{Files}
 use Rattle.output_copies.specs.declared.worker.Worker.{Worker}
-use Rattle.output_copies.specs.Copying.{IsFilled, MayEnd, TellsChange}
-use Rattle.output_copies.specs.Packed.{top_of, HasDone, IsWorker}
+use Rattle.write_back.specs.Forms.{cut_of}
+use Rattle.output_copies.specs.Copying.{MayEnd, TellsChange}
+use Rattle.output_copies.specs.Packed.{top_of, AreBlocksWritten, HasDone, IsWorker}
 use Rattle.output_copies.proofs.Changes.{handed_on}
 use Rattle.output_copies.proofs.Ends.{ends_after, ends_later, ends_ok, ends_so, err_is}
 use Rattle.output_copies.proofs.Hands.{AreWritten, top_first, written_more, written_ready}
@@ -12,8 +13,9 @@ use Rattle.output_copies.proofs.packed.write_all.Goals as goal
 pub loop-at-init : goal.loop-at-init
 loop-at-init g c =
     let t = c.args.task.now.translation.now in
+    let w = c.args.task.now.packing in
     record {
-      filled = subst (λ (n : ℕ). IsFilled (g.F.Folder.names c.args.folder.now) t.cat t.id t.plan c.args.target.now n n 0) (sym (top_first t.plan.size.h c.args.task.now.rows c.args.first c.requires.first)) c.requires.filled;
+      blocks = subst (λ (n : ℕ). AreBlocksWritten (g.F.Folder.names c.args.folder.now) t.cat t.id t.plan w (cut_of w).by_columns c.args.target.now n) (sym (top_first (cut_of w).blocks c.args.task.now.rows c.args.first c.requires.first)) c.requires.written;
       empty = c.requires.empty;
       written = record { count = refl; ready = λ i d early less. absurd (omega arith); rest = λ i d behind. refl };
       name = refl;
@@ -21,10 +23,31 @@ loop-at-init g c =
       later = omega arith;
     }
 
+-- the portion of a worker, by its number
+top_is : (extent : ℕ) (blocks rows first at top : ℕ) → top ≡ top_of extent rows first at → extent ≡ blocks → top ≡ top_of blocks rows first at
+top_is extent blocks rows first at top is same = is ∙ ap (λ n. top_of n rows first at) same
+
+pub write_made-requires-clause-end : goal.write_made-requires-clause-end
+write_made-requires-clause-end g c κs within = omega (arith, c.portion_of-portion.ensures.within, c.extent_of-extent.ensures.extent)
+
 pub write_made-requires-clause-done : goal.write_made-requires-clause-done
 write_made-requires-clause-done g c κs within =
+    let w = c.args.task.now.packing in
+    let rows = c.args.task.now.rows in
     let so_far = c.loop-at.invariant in
-    rw (c.portion_of-portion.ensures.top, c.portion_of-portion.ensures.end, so_far.written.rest c.loop-at.at _ (omega arith)) (c.requires.done c.loop-at.at _ (omega (arith, so_far.written.count, c.loop-at-test.true)))
+    let same = c.extent_of-extent.ensures.extent in
+    let top = top_is c.extent_of-extent.result (cut_of w).blocks rows c.args.first c.loop-at.at c.portion_of-portion.result.top c.portion_of-portion.ensures.top same in
+    let end = top_is c.extent_of-extent.result (cut_of w).blocks rows c.args.first (c.loop-at.at + 1) c.portion_of-portion.result.end c.portion_of-portion.ensures.end same in
+    rw (top, end, so_far.written.rest c.loop-at.at _ (omega arith)) (c.requires.done c.loop-at.at _ (omega (arith, so_far.written.count, c.loop-at-test.true)))
+
+pub write_made-requires-clause-written : goal.write_made-requires-clause-written
+write_made-requires-clause-written g c κs within =
+    let t = c.args.task.now.translation.now in
+    let w = c.args.task.now.packing in
+    let so_far = c.loop-at.invariant in
+    let top = top_is c.extent_of-extent.result (cut_of w).blocks c.args.task.now.rows c.args.first c.loop-at.at c.portion_of-portion.result.top c.portion_of-portion.ensures.top c.extent_of-extent.ensures.extent in
+    subst (λ (o : Option Files). AreBlocksWritten o t.cat t.id t.plan w (cut_of w).by_columns c.loop-at.target c.portion_of-portion.result.top) (sym so_far.names)
+    (subst (λ (n : ℕ). AreBlocksWritten (g.F.Folder.names c.args.folder.now) t.cat t.id t.plan w (cut_of w).by_columns c.loop-at.target n) (sym top) so_far.blocks)
 
 -- the worker's answer is what it was, and may end the translation since a count before
 pub returns-in_err-write_made-clause-ends : goal.returns-in_err-write_made-clause-ends
@@ -54,11 +77,13 @@ returns-in_err-write_made-clause-workers g c =
 pub loop-at-preserved : goal.loop-at-preserved
 loop-at-preserved g c =
     let t = c.args.task.now.translation.now in
+    let w = c.args.task.now.packing in
     let so_far = c.loop-at.invariant in
     let o = c.in_ok-write_made.ensures in
     record {
-      filled = subst (λ (n : Option Files). IsFilled n t.cat t.id t.plan c.write_made.new.target (top_of t.plan.size.h c.args.task.now.rows c.args.first (c.loop-at.at + 1)) (top_of t.plan.size.h c.args.task.now.rows c.args.first (c.loop-at.at + 1)) 0) (o.names ∙ so_far.names)
-          (subst (λ (n : ℕ). IsFilled (g.F.Folder.names c.write_made.new.folder) t.cat t.id t.plan c.write_made.new.target n n 0) c.portion_of-portion.ensures.end o.filled);
+      blocks = subst (λ (n : Option Files). AreBlocksWritten n t.cat t.id t.plan w (cut_of w).by_columns c.write_made.new.target (top_of (cut_of w).blocks c.args.task.now.rows c.args.first (c.loop-at.at + 1))) (o.names ∙ so_far.names)
+          (subst (λ (n : ℕ). AreBlocksWritten (g.F.Folder.names c.write_made.new.folder) t.cat t.id t.plan w (cut_of w).by_columns c.write_made.new.target n)
+          (top_is c.extent_of-extent.result (cut_of w).blocks c.args.task.now.rows c.args.first (c.loop-at.at + 1) c.portion_of-portion.result.end c.portion_of-portion.ensures.end c.extent_of-extent.ensures.extent) o.written);
       empty = o.empty;
       written = written_more g.F.Folder g.S.Scene.told g.S.Scene.cat t.cat t.id t.plan c.args.task.now.packing c.args.task.now.form c.args.task.now.rows c.args.task.now.step c.loop-at.at c.args.workers.now c.loop-at.workers c.write_made.new.worker c.loop-at-test.true o.worker so_far.written;
       name = o.name ∙ so_far.name;
@@ -66,13 +91,15 @@ loop-at-preserved g c =
       later = omega (arith, so_far.later, o.later);
     }
 
-pub returns-clause-filled : goal.returns-clause-filled
-returns-clause-filled g c =
+pub returns-clause-written : goal.returns-clause-written
+returns-clause-written g c =
     let t = c.args.task.now.translation.now in
+    let w = c.args.task.now.packing in
+    let rows = c.args.task.now.rows in
     let so_far = c.loop-at.invariant in
     let all : c.loop-at.at ≡ length c.args.workers.now = omega (arith, so_far.written.count, c.len-count.ensures, c.loop-at-test.false, c.loop-at.auto.at-end) in
-    subst (λ (o : Option Files). IsFilled o t.cat t.id t.plan c.loop-at.target (top_of t.plan.size.h c.args.task.now.rows c.args.first (length c.args.workers.now)) (top_of t.plan.size.h c.args.task.now.rows c.args.first (length c.args.workers.now)) 0) (sym so_far.names)
-    (subst (λ (n : ℕ). IsFilled (g.F.Folder.names c.args.folder.now) t.cat t.id t.plan c.loop-at.target (top_of t.plan.size.h c.args.task.now.rows c.args.first n) (top_of t.plan.size.h c.args.task.now.rows c.args.first n) 0) all so_far.filled)
+    subst (λ (o : Option Files). AreBlocksWritten o t.cat t.id t.plan w (cut_of w).by_columns c.loop-at.target (top_of (cut_of w).blocks rows c.args.first (length c.args.workers.now))) (sym so_far.names)
+    (subst (λ (n : ℕ). AreBlocksWritten (g.F.Folder.names c.args.folder.now) t.cat t.id t.plan w (cut_of w).by_columns c.loop-at.target (top_of (cut_of w).blocks rows c.args.first n)) all so_far.blocks)
 
 pub returns-in_err-write_made-clause-changed : goal.returns-in_err-write_made-clause-changed
 returns-in_err-write_made-clause-changed g c =

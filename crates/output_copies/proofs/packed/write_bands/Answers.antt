@@ -2,7 +2,7 @@ use Rattle.std.proofs.Common.{◌≡◌, ◌∙◌, ◌+◌, ◌-◌, ◌<◌, [
 use Rattle.std.proofs.lemmas.List.{get_or_default}
 use Rattle.outside.specs.Outside.{Files}
 use Rattle.output_copies.specs.Copying.{IsFilled, TellsChange}
-use Rattle.output_copies.specs.Packed.{place_in, IsLineOf, IsMade}
+use Rattle.output_copies.specs.Packed.{place_in, IsMade, IsPackedAt}
 use Rattle.output_copies.proofs.Changes.{handed_on}
 use Rattle.output_copies.proofs.Copied.{filled_next, filled_to}
 use Rattle.output_copies.proofs.Packs.{place_within}
@@ -36,7 +36,7 @@ write_line-requires-clause-bytes g c κs within =
     let inside : c.place_of-place.result < length c.args.packed.now = omega (arith, below, place, c.requires.long) in
     let line : c.index-packed-place.result ≡ get_or c.args.packed.now (place_in (length t.plan.bands) c.loop-band.band (c.args.y - c.args.top)) [] =
     c.index-packed-place.is ∙ get_or_default c.args.packed.now c.place_of-place.result c.index-packed-place.result [] inside ∙ ap (λ n. get_or c.args.packed.now n []) place in
-    subst (IsLineOf (g.F.Folder.names c.loop-band.folder) t.cat t.id t.plan c.args.task.now.packing k c.args.y) (sym line)
+    subst (IsPackedAt (g.F.Folder.names c.loop-band.folder) t.cat t.id t.plan c.args.task.now.packing k c.args.y) (sym line)
     (subst (λ (o : Option Files). IsMade o t.cat t.id t.plan c.args.task.now.packing c.args.top c.args.packed.now k c.args.y) (sym c.loop-band.invariant.names) (c.requires.made.above k c.args.y has_band c.requires.top (omega arith)))
 
 pub write_line-requires-clause-long : goal.write_line-requires-clause-long

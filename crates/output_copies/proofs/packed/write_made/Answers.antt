@@ -1,4 +1,6 @@
-use Rattle.std.proofs.Common.{◌≡◌, ◌∙◌, ◌≤◌, ap, refl, rules, sym, subst, arith, ℕ, Err, Ok, Option, Result}
+use Rattle.std.proofs.Common.{◌≡◌, ◌∙◌, ◌≤◌, ap, refl, rules, sym, subst, arith, length, ℕ, List, Err, Ok, Option, Result}
+use Rattle.std.specs.List.{All}
+use Rattle.write_back.specs.Packed.{block_len}
 use Rattle.std.specs.Prelude.{IfErr}
 use Rattle.outside.specs.Outside.{Files}
 use Rattle.error_lines.specs.declared.faults.Fault.{Fault}
@@ -11,8 +13,16 @@ use Rattle.output_copies.proofs.packed.write_made.Goals as goal
 pub write_portion-requires-clause-made : goal.write_portion-requires-clause-made
 write_portion-requires-clause-made g c κs within =
     let t = c.args.task.now.translation.now in
-    subst (λ (o : Option Files). AreMade o t.cat t.id t.plan c.args.task.now.packing c.args.portion.top c.args.worker.now.desk.packed.items c.args.portion.end c.args.portion.end 0) c.requires.told
-    (let ok : c.replace-answer.result ≡ Ok tt = search rules in c.requires.done.made (sym c.replace-answer.ensures.value ∙ ok))
+    let ok : c.replace-answer.result ≡ Ok tt = search rules in
+    subst (λ (l : List (List ℕ)). AreMade (g.F.Folder.names c.args.folder.now) t.cat t.id t.plan c.args.task.now.packing c.args.portion.top l c.args.portion.end c.args.portion.end 0) (sym c.as_slice-packed.ensures.value)
+    (subst (λ (o : Option Files). AreMade o t.cat t.id t.plan c.args.task.now.packing c.args.portion.top c.args.worker.now.desk.packed.items c.args.portion.end c.args.portion.end 0) c.requires.told
+    (c.requires.done.made (sym c.replace-answer.ensures.value ∙ ok)))
+
+pub write_portion-requires-clause-long : goal.write_portion-requires-clause-long
+write_portion-requires-clause-long g c κs within = ap length c.as_slice-packed.ensures.value ∙ c.requires.done.worker.desk.packs.long
+
+pub write_portion-requires-clause-each : goal.write_portion-requires-clause-each
+write_portion-requires-clause-each g c κs within = subst (All (λ (b : List ℕ). length b ≡ block_len c.args.task.now.packing)) (sym c.as_slice-packed.ensures.value) c.requires.done.worker.desk.packs.each
 
 pub returns-in_err-answer-clause-ends : goal.returns-in_err-answer-clause-ends
 returns-in_err-answer-clause-ends g c = λ before ends.
