@@ -12,6 +12,10 @@ use Rattle.catalog.specs.Drivers.{Dataset}
 use Rattle.catalog.specs.Places.{row_by_row}
 use Rattle.band_blocks.specs.Blocks.{BlockView}
 use Rattle.band_blocks.proofs.Corners.{filled-row_by_row}
+use Rattle.translate_plan.specs.declared.options.Driver.{Driver}
+use Rattle.translate_plan.specs.declared.options.Driver.TheVariants.{EHdr, SrtmHgt, AaiGrid, Vrt}
+use Rattle.translate_plan.specs.declared.options.Driver.TheVariants as drivers
+use Rattle.translate_plan.specs.Fits.{cell_in}
 use Rattle.translate_plan.specs.Plan.{Planned, IsPlan}
 use Rattle.write_back.specs.declared.forms.Writer.{Writer}
 use Rattle.write_back.specs.declared.forms.Writer.TheVariants.{Raw, Hgt, Dted}
@@ -19,12 +23,13 @@ use Rattle.write_back.specs.Forms.{band_total, column_total, cut_of, line_total,
 use Rattle.write_back.specs.Files.{IsTarget}
 use Rattle.write_back.specs.Overlay.{line_rect}
 use Rattle.write_back.specs.Packed.{block_len, block_rect, in_bytes, packed_in, packed_rect, IsApart, IsLined}
-use Rattle.write_back.specs.Plans.{output_of}
-use Rattle.write_back.specs.View.{Blocks, TargetView, lines_after, MeetsAll, Shows}
-use Rattle.write_back.proofs.Outputs.{has_size, is_same}
+use Rattle.write_back.specs.Plans.{output_by, output_of}
+use Rattle.write_back.specs.View.{Output, Blocks, Rows, TargetView, lines_after, MeetsAll, Shows}
+use Rattle.write_back.proofs.Outputs.{cell_found, has_size, is_same}
 use Rattle.write_back.proofs.Past.{length_in, lined_rect, lined_rows, lined_whole, lined_wide}
 use Rattle.write_back.proofs.Woven.{columns_cut}
 use Rattle.strip_copies.specs.Copies.{lines_rect}
+use Rattle.strip_copies.specs.Portions.{has_columns}
 use Rattle.strip_copies.specs.Rows.{IsHeldIn}
 use Rattle.output_copies.specs.Copying.{IsFilled}
 use Rattle.output_copies.specs.Packed.{place_in, AreFronts, AreMade, ArePacks, HoldsFront, IsBlockFor, IsMade, IsPackedAt}
@@ -59,6 +64,19 @@ single_by : (w : Writer) → (cut_of w).by_columns ≡ true → band_total w ≡
 single_by (Raw h) columns = absurd (let clash : false ≡ true = columns in cc)
 single_by (Hgt side) columns = refl
 single_by (Dted c) columns = refl
+
+-- whether an output's blocks are columns: a grid has none
+columns_on : Output → Bool
+columns_on (Blocks w) = (cut_of w).by_columns
+columns_on (Rows g) = false
+
+-- the blocks of a driver's files are columns where those of its writer are
+pub columns_by : (d : Driver) (p : Planned) (w : Writer) → output_by d p ≡ Some (Blocks w) → has_columns d ≡ (cut_of w).by_columns
+columns_by EHdr p w e = ap columns_on (is_same _ (Blocks w) e)
+columns_by (drivers.Dted level) p w e = let c = cell_found (cell_in level p.size p.geo) (Blocks w) e in sym (ap columns_on c.output)
+columns_by SrtmHgt p w e = ap columns_on (is_same _ (Blocks w) e)
+columns_by AaiGrid p w e = ap columns_on (is_same _ (Blocks w) e)
+columns_by Vrt p w e = absurd cc
 
 -- an output of columns has one band
 pub column_band : (p : Planned) (w : Writer) → IsPlan p → output_of p ≡ Some (Blocks w) → (cut_of w).by_columns ≡ true → length p.bands ≡ 1

@@ -1,14 +1,41 @@
-use Rattle.std.proofs.Common.{◌≡◌, ◌∙◌, ◌≤◌, ap, arith, sym, subst, Err, List, Result}
-use Rattle.std.specs.Prelude.{OnErr}
+use Rattle.std.proofs.Common.{◌≡◌, ◌∙◌, ◌≤◌, ap, arith, length, sym, subst, Err, List, Option, Result}
+use Rattle.std.specs.Prelude.{OnErr, OnOk}
+use Rattle.std.specs.List.{All}
+use Rattle.outside.specs.Outside.{Files}
 use Rattle.outside.specs.Streams.{GetsPart}
 use Rattle.error_lines.specs.Progress.{progress}
 use Rattle.error_lines.specs.declared.faults.Fault.TheVariants.{Memory}
 use Rattle.error_lines.specs.declared.faults.Fault.{Fault}
-use Rattle.output_copies.specs.Copying.{spoken, TellsChange}
+use Rattle.output_copies.specs.Copying.{spoken, IsFilled, TellsChange}
+use Rattle.output_copies.specs.Packed.{IsWorker}
 use Rattle.output_copies.proofs.Changes.{handed_on, memory_tells}
 use Rattle.output_copies.proofs.Ends.{ends_after, ends_later, ends_memory, ends_so, err_is}
 use Rattle.output_copies.proofs.Told.{told_none, told_so_far}
 use Rattle.output_copies.proofs.packed_output.copy_hired.Goals as goal
+
+pub copy_packed-copied-requires-clause-some : goal.copy_packed-copied-requires-clause-some
+copy_packed-copied-requires-clause-some g c κs within = omega (arith, c.in_ok-workers.ensures.count, c.get-count.ensures.some, ap length c.as_mut_slice-hands.ensures.value)
+
+pub copy_packed-copied-requires-clause-few : goal.copy_packed-copied-requires-clause-few
+copy_packed-copied-requires-clause-few g c κs within = omega (arith, c.in_ok-workers.ensures.count, c.get-count.ensures.few, ap length c.as_mut_slice-hands.ensures.value)
+
+pub copy_packed-copied-requires-clause-told : goal.copy_packed-copied-requires-clause-told
+copy_packed-copied-requires-clause-told g c κs within = c.requires.told ∙ sym c.in_ok-workers.ensures.names
+
+pub copy_packed-copied-requires-clause-workers : goal.copy_packed-copied-requires-clause-workers
+copy_packed-copied-requires-clause-workers g c κs within =
+    let t = c.args.task.now.translation.now in
+    subst (All (IsWorker g.F.Folder g.S.Scene.told g.S.Scene.cat t.cat t.id t.plan c.args.task.now.packing c.args.task.now.form c.args.task.now.rows c.args.task.now.step)) (sym c.as_mut_slice-hands.ensures.value) c.in_ok-workers.ensures.workers
+
+pub copy_packed-copied-requires-clause-filled : goal.copy_packed-copied-requires-clause-filled
+copy_packed-copied-requires-clause-filled g c κs within =
+    let t = c.args.task.now.translation.now in
+    subst (λ (o : Option Files). IsFilled o t.cat t.id t.plan c.args.target.now 0 0 0) (sym c.in_ok-workers.ensures.names) c.requires.filled
+
+pub returns-clause-filled : goal.returns-clause-filled
+returns-clause-filled g c =
+    let t = c.args.task.now.translation.now in
+    subst (λ (o : Option Files). OnOk c.copy_packed-copied.result (IsFilled o t.cat t.id t.plan c.copy_packed-copied.new.target t.plan.size.h t.plan.size.h 0)) (sym c.dismiss.ensures.names) c.copy_packed-copied.ensures.filled
 
 pub returns-clause-ends : goal.returns-clause-ends
 returns-clause-ends g c =

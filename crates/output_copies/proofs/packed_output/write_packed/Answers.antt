@@ -1,10 +1,10 @@
-use Rattle.std.proofs.Common.{◌≡◌, ◌∙◌, refl, arith, sym, subst, ℕ, Bool, List, Some, Err}
+use Rattle.std.proofs.Common.{◌≡◌, ◌∙◌, ap, refl, arith, sym, subst, ℕ, Bool, List, Some, Err}
 use Rattle.outside.specs.Streams.{Gets, GetsPart}
 use Rattle.error_lines.specs.Faults.{target_fault_of, IsOutside}
 use Rattle.error_lines.specs.Progress.{progress}
 use Rattle.error_lines.specs.Steps.{all_done, publishes, Goes}
+use Rattle.block_cache.specs.Entries.{PoolView}
 use Rattle.write_back.specs.Plans.{output_of}
-use Rattle.lane_teams.proofs.Lanes.{lanes_begin}
 use Rattle.output_copies.specs.Copying.{spoken, MayEnd, TellsChange}
 use Rattle.output_copies.specs.Steps.{files_by, raster_of, unless_quiet}
 use Rattle.output_copies.proofs.Changes.{handed_on, kept_all, kept_outside, memory_tells, outside_tells, target_tells, where_failed}
@@ -13,6 +13,15 @@ use Rattle.output_copies.proofs.Goes.{goes_refused, goes_stop, goes_then, spoken
 use Rattle.output_copies.proofs.Puts.{puts_none, puts_whole}
 use Rattle.output_copies.proofs.Written.{samples_steps}
 use Rattle.output_copies.proofs.packed_output.write_packed.Goals as goal
+
+pub copy_hired-requires-clause-told : goal.copy_hired-requires-clause-told
+copy_hired-requires-clause-told g c κs within = c.requires.told ∙ sym c.create.ensures.names
+
+pub copy_hired-requires-clause-walked : goal.copy_hired-requires-clause-walked
+copy_hired-requires-clause-walked g c κs within = λ m is. c.requires.walked m (sym c.create.ensures.names ∙ is)
+
+pub copy_hired-requires-clause-empty : goal.copy_hired-requires-clause-empty
+copy_hired-requires-clause-empty g c κs within = ap (λ (q : PoolView). q.entries) c.in_ok-target.ensures.pool
 
 pub returns-in_err-target-clause-goes : goal.returns-in_err-target-clause-goes
 returns-in_err-target-clause-goes g c = λ m d told at.

@@ -1,8 +1,14 @@
-use Rattle.std.proofs.Common.{◌+◌, ◌∙◌, ap, length}
+use Rattle.std.proofs.Common.{◌+◌, ◌∙◌, ap, length, sym}
 use Rattle.std.proofs.lemmas.List.{length_push}
 use Rattle.std.proofs.lemmas.List.Elements.{All-push, All-same}
 use Rattle.output_copies.specs.Packed.{IsWorker}
 use Rattle.output_copies.proofs.worker.hire.Goals as goal
+
+pub hire_one-requires-clause-told : goal.hire_one-requires-clause-told
+hire_one-requires-clause-told g c κs within = c.requires.told ∙ sym c.loop-at.invariant.names
+
+pub hire_one-requires-clause-walked : goal.hire_one-requires-clause-walked
+hire_one-requires-clause-walked g c κs within = λ m is. c.requires.walked m (sym c.loop-at.invariant.names ∙ is)
 
 pub loop-at-preserved : goal.loop-at-preserved
 loop-at-preserved g c =
