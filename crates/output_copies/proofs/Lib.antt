@@ -1,6 +1,5 @@
 pub mod Alike
 mod Beside
-mod Calls
 pub mod Changes
 mod Columned
 pub mod Copied
@@ -8,6 +7,8 @@ pub mod Ends
 pub mod Fronts
 pub mod Goes
 pub mod Hands
+mod Kept
+mod Numbered
 pub mod Packs
 pub mod Puts
 pub mod Told

@@ -60,6 +60,11 @@ module _ (p : Planned) (w : Writer) (plan : IsPlan p) (output : output_of p ≡ 
 pub is_lined : (w : Writer) → IsApart w → (cut_of w).by_columns ≡ false → IsLined w
 is_lined w apart rows = record { rows = rows; apart = apart }
 
+-- a band has a block
+pub some_blocks : (p : Planned) (w : Writer) → IsPlan p → output_of p ≡ Some (Blocks w) → IsApart w → (b : Bool) → (cut_of w).by_columns ≡ b → 0 < (cut_of w).blocks
+some_blocks p w plan output apart false rows = let high = line_blocks p w plan output (is_lined w apart rows) in let some = plan.size.some_lines in omega (arith, high, some)
+some_blocks p w plan output apart true columns = let wide = column_blocks p w plan output columns in let some = plan.size.some_columns in omega (arith, wide, some)
+
 single_by : (w : Writer) → (cut_of w).by_columns ≡ true → band_total w ≡ 1
 single_by (Raw h) columns = absurd (let clash : false ≡ true = columns in cc)
 single_by (Hgt side) columns = refl

@@ -24,7 +24,7 @@ use outside::{Counter, Folder, Sink};
 use shared_lines::{Lines, Scene};
 use std::sync::ledger::{Blank, Ledger};
 use std::thread::Threads;
-use strip_copies::{Portions, Translation, portions};
+use strip_copies::{Portions, Translation, portions_of};
 use write_back::{Packing, Target};
 
 // Copies all blocks of all bands by so many workers as are asked for, whose views are ended then.
@@ -84,7 +84,7 @@ pub fn shares_of(translation: &Translation, writing: &Writing) -> Option<Shares>
     // This call is made for the proof: it says what every plan keeps.
     translation.plan.rules();
     let packing = Packing::of(&translation.plan)?;
-    let portions = portions(translation, writing.workers)?;
+    let portions = portions_of(translation, writing.workers)?;
     Some(Shares { packing, portions })
 }
 

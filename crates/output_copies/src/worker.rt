@@ -239,20 +239,6 @@ fn record_count<S: Scene>(task: &Task<S>) -> u32
     }
 }
 
-// The samples of a block: those of a column, or of a line.
-fn spots_of<S: Scene>(task: &Task<S>) -> u32
-    requires task { IsTask task.now.translation.now.cat task.now.translation.now.id task.now.translation.now.plan
-        task.now.packing task.now.form task.now.rows task.now.step }
-    ensures spots { result ≡ (cut_of task.now.packing).spots }
-{
-    let plan = &task.translation.plan;
-    plan.rules();
-    if task.packing.by_columns() {
-        return plan.size.h;
-    }
-    plan.size.w
-}
-
 /// How many blocks of each band an output has: its columns, or its lines.
 pub fn extent_of<S: Scene>(task: &Task<S>) -> u32
     requires task { IsTask task.now.translation.now.cat task.now.translation.now.id task.now.translation.now.plan
@@ -260,12 +246,9 @@ pub fn extent_of<S: Scene>(task: &Task<S>) -> u32
     ensures extent { result ≡ (cut_of task.now.packing).blocks }
     ensures some { 1 ≤ result }
 {
-    let plan = &task.translation.plan;
-    plan.rules();
-    if task.packing.by_columns() {
-        return plan.size.w;
-    }
-    plan.size.h
+    // This call is made for the proof: it says what every plan keeps.
+    task.translation.plan.rules();
+    task.packing.blocks()
 }
 
 // What a worker needs besides a view: room for samples, a block for a line, blocks for columns, and room for packed
@@ -279,7 +262,7 @@ fn desk_rooms<S: Scene>(task: &Task<S>) -> Result<Rooms, AllocError>
     let alloc = task.translation.alloc;
     let plan = &task.translation.plan;
     let kind = task.packing.kind();
-    let spots = spots_of(task);
+    let spots = task.packing.spots();
     let size = room_len(task);
     let room = vec![in alloc; 0; size]?;
     let block = Block::new(alloc, kind, spots)?;

@@ -1,7 +1,7 @@
 use Rattle.std.proofs.Common.{◌≡◌, ◌∙◌, ◌+◌, ◌≤◌, ◌-◌, ◌*◌, ap, sym, subst, arith, length, false, ℕ, ℤ, List, Err, Option, Result}
 use Rattle.outside.specs.Outside.{Files}
 use Rattle.error_lines.specs.declared.faults.Fault.{Fault}
-use Rattle.lane_teams.proofs.Refusals.{put_back}
+use Rattle.output_copies.proofs.Kept.{put_back}
 use Rattle.strip_copies.specs.Portions.{makes_columns}
 use Rattle.output_copies.specs.Copying.{MayEnd, TellsChange}
 use Rattle.output_copies.specs.Packed.{AreMade, ArePacks}

@@ -3,7 +3,7 @@ use Rattle.std.specs.Prelude.{OnOk}
 use Rattle.std.proofs.lemmas.List.{get_or_default}
 use Rattle.write_back.specs.Forms.{cut_of}
 use Rattle.output_copies.specs.Packed.{place_in, AreBlocksWritten, IsPackedAt}
-use Rattle.output_copies.proofs.Packs.{line_blocks, place_within}
+use Rattle.output_copies.proofs.Packs.{is_lined, line_blocks, place_within}
 use Rattle.output_copies.proofs.packed.write_block.Goals as goal
 
 pub bounds-packed-place : goal.bounds-packed-place
@@ -47,19 +47,19 @@ returns-then-by_columns-clause-written g c =
     subst (λ (b : Bool). OnOk c.write_column.result (AreBlocksWritten (g.F.Folder.names c.write_column.new.folder) t.cat t.id t.plan c.args.task.now.packing b c.write_column.new.target (c.args.block + 1))) (sym (sym c.by_columns.ensures.columns ∙ c.if-by_columns.true)) c.write_column.ensures.written
 
 pub write_bands-requires-clause-lines : goal.write_bands-requires-clause-lines
-write_bands-requires-clause-lines g c κs within = (c.by_columns.ensures.lined c.if-by_columns.false).rows
+write_bands-requires-clause-lines g c κs within = (sym c.by_columns.ensures.columns ∙ c.if-by_columns.false)
 
 pub write_bands-requires-clause-line : goal.write_bands-requires-clause-line
 write_bands-requires-clause-line g c κs within =
-    let high = line_blocks c.args.task.now.translation.now.plan c.args.task.now.packing c.rules.ensures.kept c.requires.task.output (c.by_columns.ensures.lined c.if-by_columns.false) in
+    let high = line_blocks c.args.task.now.translation.now.plan c.args.task.now.packing c.rules.ensures.kept c.requires.task.output (is_lined c.args.task.now.packing c.requires.task.apart (sym c.by_columns.ensures.columns ∙ c.if-by_columns.false)) in
     omega (arith, high, c.requires.block)
 
 pub write_bands-requires-clause-filled : goal.write_bands-requires-clause-filled
 write_bands-requires-clause-filled g c κs within =
     let t = c.args.task.now.translation.now in
-    subst (λ (b : Bool). AreBlocksWritten (g.F.Folder.names c.args.folder.now) t.cat t.id t.plan c.args.task.now.packing b c.args.target.now c.args.block) (c.by_columns.ensures.lined c.if-by_columns.false).rows c.requires.written
+    subst (λ (b : Bool). AreBlocksWritten (g.F.Folder.names c.args.folder.now) t.cat t.id t.plan c.args.task.now.packing b c.args.target.now c.args.block) (sym c.by_columns.ensures.columns ∙ c.if-by_columns.false) c.requires.written
 
 pub returns-clause-written : goal.returns-clause-written
 returns-clause-written g c =
     let t = c.args.task.now.translation.now in
-    subst (λ (b : Bool). OnOk c.write_bands.result (AreBlocksWritten (g.F.Folder.names c.write_bands.new.folder) t.cat t.id t.plan c.args.task.now.packing b c.write_bands.new.target (c.args.block + 1))) (sym (c.by_columns.ensures.lined c.if-by_columns.false).rows) c.write_bands.ensures.filled
+    subst (λ (b : Bool). OnOk c.write_bands.result (AreBlocksWritten (g.F.Folder.names c.write_bands.new.folder) t.cat t.id t.plan c.args.task.now.packing b c.write_bands.new.target (c.args.block + 1))) (sym (sym c.by_columns.ensures.columns ∙ c.if-by_columns.false)) c.write_bands.ensures.filled

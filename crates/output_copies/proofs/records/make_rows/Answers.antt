@@ -3,7 +3,7 @@ use Rattle.std.specs.List.{All}
 use Rattle.std.proofs.Math.Nat.{mul-le-mul}
 use Rattle.outside.specs.Outside.{Files}
 use Rattle.band_blocks.specs.Blocks.{BlockView}
-use Rattle.lane_teams.proofs.Refusals.{put_back}
+use Rattle.output_copies.proofs.Kept.{put_back}
 use Rattle.strip_copies.specs.Pieces.{piece_rect}
 use Rattle.strip_copies.specs.Portions.{makes_columns, reads_pieces}
 use Rattle.output_copies.specs.Copying.{MayEnd, TellsChange}

@@ -1,7 +1,7 @@
 use Rattle.std.proofs.Common.{◌≡◌, ◌∙◌, ◌-◌, ap, arith, length, subst, sym, true, ℕ, List}
 use Rattle.std.specs.List.{All}
 use Rattle.band_blocks.specs.Blocks.{BlockView}
-use Rattle.lane_teams.proofs.Refusals.{put_back}
+use Rattle.output_copies.proofs.Kept.{put_back}
 use Rattle.strip_copies.specs.Portions.{makes_columns}
 use Rattle.write_back.specs.Packed.{block_len}
 use Rattle.output_copies.specs.Copying.{TellsChange}
