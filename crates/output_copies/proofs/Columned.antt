@@ -1,5 +1,5 @@
 -- Outputs of columns, which are written one after the other.
-use Rattle.std.proofs.Common.{◌≡◌, ◌∙◌, ap, sym, subst, refl, ℕ, ℤ, pos, ◌+◌, ◌-◌, ◌*◌, ◌<◌, ◌≤◌, arith, length, get_or, inl, inr, Bool, true, false, List, [], Option, Some, None}
+use Rattle.std.proofs.Common.{◌≡◌, ◌∙◌, ap, sym, subst, ℕ, ℤ, pos, ◌+◌, ◌*◌, ◌<◌, arith, get_or, inl, inr, Bool, true, false, List, Option, Some, None}
 use Rattle.std.specs.Prelude.{is_some, slice_get, IsSome}
 use Rattle.std.proofs.lemmas.Bool.{cases_lt}
 use Rattle.geotransform.specs.declared.types.Rect.{Rect}
@@ -11,7 +11,7 @@ use Rattle.write_back.specs.Files.{IsTarget}
 use Rattle.write_back.specs.Forms.{cut_of, line_total}
 use Rattle.write_back.specs.Packed.{in_bytes, packed_in, packed_rect, IsApart}
 use Rattle.write_back.specs.Plans.{output_of}
-use Rattle.write_back.specs.View.{Output, Blocks, TargetView, bands_of, columns_of, rows_of, sheet_in, shown, IsIn, IsMetOn, Meets, MeetsAll, Shows}
+use Rattle.write_back.specs.View.{Output, Blocks, TargetView, columns_of, rows_of, sheet_in, shown, IsIn, IsMetOn, Meets, MeetsAll, Shows}
 use Rattle.write_back.specs.Overlay.{IsOverlaid}
 use Rattle.write_back.proofs.Outputs.{has_size, is_same}
 use Rattle.write_back.proofs.Past.{column_rect}

@@ -1,5 +1,5 @@
 -- Workers one after the other.
-use Rattle.std.proofs.Common.{◌≡◌, ◌∙◌, ap, sym, subst, refl, ℕ, ◌+◌, ◌-◌, ◌*◌, ◌<◌, ◌≤◌, min, arith, length, get_or, List, Option, Ok, Result, inl, inr}
+use Rattle.std.proofs.Common.{◌≡◌, ◌∙◌, ap, sym, subst, refl, ℕ, ◌+◌, ◌-◌, ◌*◌, ◌<◌, ◌≤◌, arith, length, get_or, List, Option, Result, inl, inr}
 use Rattle.std.specs.Prelude.{slice_set, IfErr}
 use Rattle.std.specs.List.{All}
 use Rattle.std.proofs.lemmas.Bool.{cases_lt}
@@ -15,7 +15,7 @@ use Rattle.strip_copies.specs.declared.portions.Form.{Form}
 use Rattle.error_lines.specs.declared.faults.Fault.{Fault}
 use Rattle.output_copies.specs.declared.worker.Worker.{Worker}
 use Rattle.output_copies.specs.Copying.{MayEnd, TellsChange}
-use Rattle.output_copies.specs.Packed.{top_of, AreDone, AreMade, HasDone, IsWorker, MayAnswer, MayAnswerByViews}
+use Rattle.output_copies.specs.Packed.{top_of, AreDone, AreMade, HasDone, IsWorker, MayAnswerByViews}
 use Rattle.output_copies.proofs.Ends.{ends_after, ends_by_view, ends_later}
 
 -- the first worker's blocks begin where all do

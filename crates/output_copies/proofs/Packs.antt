@@ -1,12 +1,11 @@
 -- Blocks that are made and packed.
-use Rattle.std.proofs.Common.{◌≡◌, ◌∙◌, ap, sym, subst, refl, ℕ, ℤ, pos, ◌+◌, ◌-◌, ◌*◌, ◌/◌, ◌%◌, ◌<◌, ◌≤◌, arith, length, get_or, take, drop, inl, inr, Bool, true, false, List, [], Option, Some, None}
+use Rattle.std.proofs.Common.{◌≡◌, ◌∙◌, ap, sym, subst, refl, ℕ, ℤ, pos, ◌+◌, ◌-◌, ◌*◌, ◌/◌, ◌%◌, ◌<◌, ◌≤◌, arith, length, get_or, inl, inr, Bool, true, false, List, [], Option, Some, None}
 use Rattle.std.specs.Prelude.{slice_get, slice_set}
 use Rattle.std.specs.List.{All}
 use Rattle.std.proofs.lemmas.Bool.{cases_lt}
 use Rattle.std.proofs.lemmas.List.{length-set, get_or-set_other, get_or-set_same}
 use Rattle.std.proofs.lemmas.List.Elements.{All-set}
 use Rattle.std.proofs.lemmas.Nat.{div-mul-add, mod-mul-add, mul-add-lt}
-use Rattle.geotransform.specs.declared.types.Rect.{Rect}
 use Rattle.outside.specs.Outside.{Files}
 use Rattle.catalog.specs.Drivers.{Dataset}
 use Rattle.catalog.specs.Places.{row_by_row}
@@ -19,10 +18,10 @@ use Rattle.translate_plan.specs.Fits.{cell_in}
 use Rattle.translate_plan.specs.Plan.{Planned, IsPlan}
 use Rattle.write_back.specs.declared.forms.Writer.{Writer}
 use Rattle.write_back.specs.declared.forms.Writer.TheVariants.{Raw, Hgt, Dted}
-use Rattle.write_back.specs.Forms.{band_total, column_total, cut_of, line_total, AreHeld}
+use Rattle.write_back.specs.Forms.{band_total, cut_of, AreHeld}
 use Rattle.write_back.specs.Files.{IsTarget}
 use Rattle.write_back.specs.Overlay.{line_rect}
-use Rattle.write_back.specs.Packed.{block_len, block_rect, in_bytes, packed_in, packed_rect, IsApart, IsLined}
+use Rattle.write_back.specs.Packed.{block_len, in_bytes, packed_in, packed_rect, IsApart, IsLined}
 use Rattle.write_back.specs.Plans.{output_by, output_of}
 use Rattle.write_back.specs.View.{Output, Blocks, Rows, TargetView, lines_after, MeetsAll, Shows}
 use Rattle.write_back.proofs.Outputs.{cell_found, has_size, is_same}

@@ -1,6 +1,6 @@
 -- Blocks of an output, lines of a band or columns, that several workers make and pack beside each other.
 use Rattle.std.specs.Prelude.{ℕ, ℤ, pos, ◌≡◌, ◌<◌, ◌≤◌, ◌+◌, ◌-◌, ◌*◌, min, Bool, true, false, List, length, Option}
-use Rattle.std.specs.Prelude.{Some, None, Result, Ok, IfErr, [], get_or, slice_get}
+use Rattle.std.specs.Prelude.{Some, None, Ok, IfErr, [], get_or, slice_get}
 use Rattle.std.specs.List.{All}
 use Rattle.outside.specs.Outside.{Files}
 use Rattle.outside.specs.declared.folder.Folder.{Ghosts}
@@ -19,7 +19,6 @@ use Rattle.strip_copies.specs.declared.portions.Form.TheVariants.{Lines, Pieces,
 use Rattle.strip_copies.specs.Copies.{IsRoomFor, IsTranslation}
 use Rattle.strip_copies.specs.Portions.{makes_columns, TakesForm}
 use Rattle.strip_copies.specs.Rows.{IsHeldIn}
-use Rattle.error_lines.specs.declared.faults.Fault.{Fault}
 use Rattle.output_copies.specs.declared.worker.Worker.{Worker}
 use Rattle.output_copies.specs.Copying.{IsFilled, MayEnd, TellsChange}
 use Rattle.output_copies.specs.Steps.{raster_of}

@@ -1,4 +1,4 @@
-use Rattle.std.proofs.Common.{◌≡◌, ◌∙◌, ap, arith, length, length-append, refl, sym}
+use Rattle.std.proofs.Common.{arith, length-append, refl}
 use Rattle.std.specs.Fork.{AcceptsAt, ChangesAt}
 use Rattle.output_copies.proofs.Numbered.{of_both, of_first, of_one, of_only, of_others}
 use Rattle.output_copies.proofs.calls.+each.Goals as goal

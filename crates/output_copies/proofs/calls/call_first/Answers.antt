@@ -1,4 +1,4 @@
-use Rattle.std.proofs.Common.{◌∙◌, ◌<◌, arith, get_or, length, sym, subst}
+use Rattle.std.proofs.Common.{◌<◌, arith, get_or, length, sym, subst}
 use Rattle.std.specs.Fork.{ChangesAt}
 use Rattle.std.proofs.lemmas.List.{get_or_default, get_or-set_same}
 use Rattle.output_copies.proofs.calls.call_first.Goals as goal

@@ -1,4 +1,4 @@
-use Rattle.std.proofs.Common.{◌≡◌, arith, get_or, rules, subst, sym}
+use Rattle.std.proofs.Common.{arith, rules, subst, sym}
 use Rattle.output_copies.specs.Packed.{IsWorker}
 use Rattle.output_copies.proofs.making.make_all.Goals as goal
 

@@ -1,4 +1,4 @@
-use Rattle.std.proofs.Common.{◌≡◌, ◌∙◌, ◌≤◌, ap, sym, arith, true, false}
+use Rattle.std.proofs.Common.{◌∙◌, ap, sym, arith}
 use Rattle.strip_copies.specs.Portions.{makes_columns}
 use Rattle.output_copies.proofs.Packs.{column_blocks, is_lined, line_blocks}
 use Rattle.output_copies.proofs.making.make_blocks.Goals as goal

@@ -1,4 +1,4 @@
-use Rattle.std.proofs.Common.{◌≡◌, ◌∙◌, ◌≤◌, ap, arith, refl, sym, subst}
+use Rattle.std.proofs.Common.{ap, arith, refl, sym, subst}
 use Rattle.lane_teams.specs.Ready.{AreLanesReady}
 use Rattle.strip_copies.specs.Copies.{IsRoomFor}
 use Rattle.output_copies.proofs.Ends.{ends_after, ok_then}

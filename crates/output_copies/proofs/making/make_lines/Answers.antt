@@ -1,6 +1,5 @@
-use Rattle.std.proofs.Common.{◌≡◌, ◌∙◌, ◌+◌, ◌≤◌, ◌-◌, ◌*◌, ap, sym, subst, arith, length, false, ℕ, ℤ, List, Err, Option, Result}
+use Rattle.std.proofs.Common.{◌∙◌, ◌+◌, ap, sym, subst, arith, length, ℕ, List, Err, Option}
 use Rattle.outside.specs.Outside.{Files}
-use Rattle.error_lines.specs.declared.faults.Fault.{Fault}
 use Rattle.output_copies.proofs.Kept.{put_back}
 use Rattle.strip_copies.specs.Portions.{makes_columns}
 use Rattle.output_copies.specs.Copying.{MayEnd, TellsChange}

@@ -1,4 +1,4 @@
-use Rattle.std.proofs.Common.{◌≡◌, ◌∙◌, ◌≤◌, ap, arith, refl, subst, sym, ℕ, Err, Option, Result}
+use Rattle.std.proofs.Common.{◌∙◌, ap, arith, subst, ℕ, Err, Option}
 use Rattle.std.specs.Prelude.{OnOk}
 use Rattle.outside.specs.Outside.{Files}
 use Rattle.error_lines.specs.declared.faults.Fault.{Fault}

@@ -1,13 +1,12 @@
-use Rattle.std.proofs.Common.{◌≡◌, ◌∙◌, ◌+◌, ◌≤◌, ◌<◌, [], ap, arith, refl, sym, subst, length, get_or, ℕ, Err, Ok, Option, Result}
+use Rattle.std.proofs.Common.{◌≡◌, ◌∙◌, ◌+◌, ap, arith, refl, sym, subst, length, get_or, ℕ, Err, Option}
 use Rattle.std.specs.Prelude.{slice_set}
 use Rattle.outside.specs.Outside.{Files}
-use Rattle.output_copies.specs.declared.worker.Worker.{Worker}
 use Rattle.write_back.specs.Forms.{cut_of}
 use Rattle.output_copies.specs.Copying.{MayEnd, TellsChange}
-use Rattle.output_copies.specs.Packed.{top_of, AreBlocksWritten, HasDone, IsWorker}
+use Rattle.output_copies.specs.Packed.{top_of, AreBlocksWritten}
 use Rattle.output_copies.proofs.Changes.{handed_on}
-use Rattle.output_copies.proofs.Ends.{ends_after, ends_later, ends_ok, ends_so, err_is}
-use Rattle.output_copies.proofs.Hands.{AreWritten, top_first, written_more, written_ready}
+use Rattle.output_copies.proofs.Ends.{ends_later, ends_ok, ends_so, err_is}
+use Rattle.output_copies.proofs.Hands.{top_first, written_more, written_ready}
 use Rattle.output_copies.proofs.packed.write_all.Goals as goal
 
 pub loop-at-init : goal.loop-at-init

@@ -1,7 +1,6 @@
-use Rattle.std.proofs.Common.{◌≡◌, ◌∙◌, ◌+◌, ◌-◌, ◌<◌, [], ap, sym, subst, arith, get_or, length, true, false, Bool, ℕ}
+use Rattle.std.proofs.Common.{◌≡◌, ◌∙◌, ◌+◌, ◌-◌, ◌<◌, [], ap, sym, subst, arith, get_or, length, Bool}
 use Rattle.std.specs.Prelude.{OnOk}
 use Rattle.std.proofs.lemmas.List.{get_or_default}
-use Rattle.write_back.specs.Forms.{cut_of}
 use Rattle.output_copies.specs.Packed.{place_in, AreBlocksWritten, IsPackedAt}
 use Rattle.output_copies.proofs.Packs.{is_lined, line_blocks, place_within}
 use Rattle.output_copies.proofs.packed.write_block.Goals as goal

@@ -1,8 +1,7 @@
-use Rattle.std.proofs.Common.{◌≡◌, ◌∙◌, ◌+◌, ◌<◌, ap, refl, sym, subst, arith, length, true}
+use Rattle.std.proofs.Common.{◌∙◌, ◌<◌, ap, sym, subst, arith, length}
 use Rattle.error_lines.specs.Faults.{target_fault_of}
-use Rattle.write_back.specs.Forms.{cut_of}
 use Rattle.write_back.specs.Packed.{packed_blocks, packed_len, AreApart, IsPackedOf}
-use Rattle.write_back.specs.View.{Output, Blocks, bands_of}
+use Rattle.write_back.specs.View.{Output, Blocks}
 use Rattle.write_back.proofs.Outputs.{has_size, is_same}
 use Rattle.output_copies.specs.Copying.{TellsChange}
 use Rattle.output_copies.specs.Packed.{IsPackedAt}

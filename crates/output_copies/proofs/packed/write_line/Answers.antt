@@ -1,4 +1,4 @@
-use Rattle.std.proofs.Common.{◌≡◌, ◌∙◌, ◌+◌, ◌<◌, ap, refl, sym, subst, arith, length}
+use Rattle.std.proofs.Common.{◌∙◌, ◌+◌, ◌<◌, ap, sym, subst, arith, length}
 use Rattle.error_lines.specs.Faults.{target_fault_of}
 use Rattle.write_back.specs.Packed.{packed_blocks, packed_len, AreApart, IsPackedOf}
 use Rattle.write_back.specs.View.{Output, Blocks}

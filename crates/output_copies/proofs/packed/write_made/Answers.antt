@@ -1,4 +1,4 @@
-use Rattle.std.proofs.Common.{◌≡◌, ◌∙◌, ◌≤◌, ap, refl, rules, sym, subst, arith, length, ℕ, List, Err, Ok, Option, Result}
+use Rattle.std.proofs.Common.{◌≡◌, ◌∙◌, ap, refl, rules, sym, subst, arith, length, ℕ, List, Err, Ok, Option, Result}
 use Rattle.std.specs.List.{All}
 use Rattle.write_back.specs.Packed.{block_len}
 use Rattle.std.specs.Prelude.{IfErr}

@@ -1,4 +1,4 @@
-use Rattle.std.proofs.Common.{◌≡◌, ◌∙◌, ◌+◌, [], arith, refl, sym, subst, ℕ, Option}
+use Rattle.std.proofs.Common.{◌≡◌, ◌∙◌, ◌+◌, arith, sym, subst, ℕ, Option}
 use Rattle.outside.specs.Outside.{Files}
 use Rattle.write_back.specs.Forms.{cut_of}
 use Rattle.output_copies.specs.Copying.{TellsChange}

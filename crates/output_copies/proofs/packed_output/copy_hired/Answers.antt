@@ -1,4 +1,4 @@
-use Rattle.std.proofs.Common.{◌≡◌, ◌∙◌, ◌≤◌, ap, arith, length, sym, subst, Err, List, Option, Result}
+use Rattle.std.proofs.Common.{◌∙◌, ap, arith, length, sym, subst, Err, Option, Result}
 use Rattle.std.specs.Prelude.{OnErr, OnOk}
 use Rattle.std.specs.List.{All}
 use Rattle.outside.specs.Outside.{Files}

@@ -1,5 +1,4 @@
-use Rattle.std.proofs.Common.{◌≡◌, ◌∙◌, ap, refl, arith, sym, subst, ℕ, Bool, List, Some, Err}
-use Rattle.outside.specs.Streams.{Gets, GetsPart}
+use Rattle.std.proofs.Common.{◌≡◌, ◌∙◌, ap, refl, arith, sym, subst, ℕ, List, Some, Err}
 use Rattle.error_lines.specs.Faults.{target_fault_of, IsOutside}
 use Rattle.error_lines.specs.Progress.{progress}
 use Rattle.error_lines.specs.Steps.{all_done, publishes, Goes}
@@ -7,8 +6,8 @@ use Rattle.block_cache.specs.Entries.{PoolView}
 use Rattle.write_back.specs.Plans.{output_of}
 use Rattle.output_copies.specs.Copying.{spoken, MayEnd, TellsChange}
 use Rattle.output_copies.specs.Steps.{files_by, raster_of, unless_quiet}
-use Rattle.output_copies.proofs.Changes.{handed_on, kept_all, kept_outside, memory_tells, outside_tells, target_tells, where_failed}
-use Rattle.output_copies.proofs.Ends.{ends_after, ends_beside, ends_so, ends_target, err_is, outside_memory, outside_target}
+use Rattle.output_copies.proofs.Changes.{handed_on, kept_all, kept_outside, outside_tells, target_tells, where_failed}
+use Rattle.output_copies.proofs.Ends.{ends_after, ends_beside, ends_so, ends_target, err_is, outside_target}
 use Rattle.output_copies.proofs.Goes.{goes_refused, goes_stop, goes_then, spoken_done, spoken_stops}
 use Rattle.output_copies.proofs.Puts.{puts_none, puts_whole}
 use Rattle.output_copies.proofs.Written.{samples_steps}

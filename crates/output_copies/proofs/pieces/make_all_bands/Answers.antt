@@ -1,4 +1,4 @@
-use Rattle.std.proofs.Common.{◌≡◌, ◌<◌, refl, arith, subst, length, ℕ}
+use Rattle.std.proofs.Common.{◌≡◌, refl, arith, subst, length, ℕ}
 use Rattle.output_copies.specs.Copying.{TellsChange}
 use Rattle.output_copies.specs.Packed.{AreMade}
 use Rattle.output_copies.proofs.Changes.{handed_on}

@@ -1,4 +1,4 @@
-use Rattle.std.proofs.Common.{◌≡◌, ◌∙◌, ◌≤◌, ◌<◌, ◌+◌, ◌-◌, ap, false, get_or, refl, sym, arith, subst, ℕ}
+use Rattle.std.proofs.Common.{◌≡◌, ◌∙◌, ap, false, refl, sym, arith, subst}
 use Rattle.translate_plan.specs.Plan.{Planned}
 use Rattle.write_back.specs.Forms.{cut_of}
 use Rattle.strip_copies.specs.Portions.{makes_columns}

@@ -1,4 +1,4 @@
-use Rattle.std.proofs.Common.{◌≡◌, ◌∙◌, ◌≤◌, ◌-◌, ◌*◌, ap, sym, subst, arith, length, true, ℕ, List, Err, Option}
+use Rattle.std.proofs.Common.{◌∙◌, ◌≤◌, ◌-◌, ◌*◌, ap, sym, subst, arith, length, ℕ, List, Err, Option}
 use Rattle.std.proofs.Math.Nat.{mul-le-mul}
 use Rattle.outside.specs.Outside.{Files}
 use Rattle.output_copies.proofs.Kept.{put_back}

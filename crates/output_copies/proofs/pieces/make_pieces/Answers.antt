@@ -1,4 +1,4 @@
-use Rattle.std.proofs.Common.{◌≡◌, ◌<◌, arith, subst, ℕ}
+use Rattle.std.proofs.Common.{arith, subst, ℕ}
 use Rattle.output_copies.specs.Packed.{AreMade}
 use Rattle.output_copies.proofs.Ends.{ends_ok}
 use Rattle.output_copies.proofs.Packs.{made_none}

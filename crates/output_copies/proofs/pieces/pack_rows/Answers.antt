@@ -1,13 +1,13 @@
-use Rattle.std.proofs.Common.{◌≡◌, ◌∙◌, ◌+◌, ◌-◌, ◌*◌, ◌<◌, ◌≤◌, ap, sym, subst, arith, inl, inr, get_or, length, take, drop, false, [], ℕ, ℤ, List}
+use Rattle.std.proofs.Common.{◌≡◌, ◌∙◌, ◌-◌, ◌*◌, ◌<◌, ◌≤◌, ap, sym, subst, arith, inl, inr, get_or, length, take, drop, false, [], ℕ, List}
 use Rattle.std.specs.Prelude.{slice_set}
 use Rattle.std.proofs.lemmas.Bool.{cases_lt}
 use Rattle.std.proofs.lemmas.List.{get_or_default}
 use Rattle.band_blocks.specs.Blocks.{written}
-use Rattle.write_back.specs.Forms.{cut_of, AreHeld}
+use Rattle.write_back.specs.Forms.{AreHeld}
 use Rattle.write_back.specs.Packed.{in_bytes}
 use Rattle.write_back.proofs.Past.{length_in}
 use Rattle.output_copies.specs.Packed.{place_in, AreFronts, HoldsFront}
-use Rattle.output_copies.proofs.Fronts.{piece_front, piece_held, piece_long, piece_within}
+use Rattle.output_copies.proofs.Fronts.{piece_front, piece_held, piece_within}
 use Rattle.output_copies.proofs.Packs.{are_held, is_lined, line_spots, made_there, packed_here, packed_there, packs_set, place_within}
 use Rattle.output_copies.proofs.pieces.pack_rows.Goals as goal
 

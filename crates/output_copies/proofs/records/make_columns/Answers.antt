@@ -1,4 +1,4 @@
-use Rattle.std.proofs.Common.{◌≡◌, ◌∙◌, ◌≤◌, ◌<◌, ◌+◌, ◌-◌, ap, refl, sym, arith, subst, true, ℕ}
+use Rattle.std.proofs.Common.{◌≡◌, ◌+◌, ◌-◌, ap, refl, arith, subst, true, ℕ}
 use Rattle.translate_plan.specs.Plan.{Planned}
 use Rattle.output_copies.specs.Copying.{TellsChange}
 use Rattle.output_copies.specs.Packed.{AreColumnFronts}

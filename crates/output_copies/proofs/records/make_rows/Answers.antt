@@ -1,8 +1,7 @@
-use Rattle.std.proofs.Common.{◌≡◌, ◌∙◌, ◌≤◌, ◌-◌, ◌*◌, ap, sym, subst, arith, length, true, ℕ, List, Err, Option}
+use Rattle.std.proofs.Common.{◌∙◌, ◌≤◌, ◌-◌, ◌*◌, ap, sym, subst, arith, length, Err, Option}
 use Rattle.std.specs.List.{All}
 use Rattle.std.proofs.Math.Nat.{mul-le-mul}
 use Rattle.outside.specs.Outside.{Files}
-use Rattle.band_blocks.specs.Blocks.{BlockView}
 use Rattle.output_copies.proofs.Kept.{put_back}
 use Rattle.strip_copies.specs.Pieces.{piece_rect}
 use Rattle.strip_copies.specs.Portions.{makes_columns, reads_pieces}

@@ -1,6 +1,5 @@
-use Rattle.std.proofs.Common.{◌≡◌, ◌∙◌, ◌-◌, ap, arith, length, subst, sym, true, ℕ, List}
+use Rattle.std.proofs.Common.{◌≡◌, ◌∙◌, ◌-◌, ap, arith, length, subst, sym, ℕ, List}
 use Rattle.std.specs.List.{All}
-use Rattle.band_blocks.specs.Blocks.{BlockView}
 use Rattle.output_copies.proofs.Kept.{put_back}
 use Rattle.strip_copies.specs.Portions.{makes_columns}
 use Rattle.write_back.specs.Packed.{block_len}

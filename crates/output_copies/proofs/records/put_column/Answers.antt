@@ -1,18 +1,15 @@
-use Rattle.std.proofs.Common.{◌≡◌, ◌∙◌, ◌+◌, ◌-◌, ◌*◌, ◌<◌, ◌≤◌, ap, sym, subst, arith, get_or, length, pos, true, ℕ, ℤ, List}
-use Rattle.std.specs.Prelude.{slice_set}
+use Rattle.std.proofs.Common.{◌≡◌, ◌∙◌, ◌+◌, ◌-◌, ◌*◌, ◌<◌, ap, sym, subst, arith, get_or, length, pos, true}
 use Rattle.std.proofs.lemmas.List.{length-set}
 use Rattle.geotransform.specs.Types.{is_in}
 use Rattle.geotransform.specs.declared.types.PixelType.{PixelType}
 use Rattle.band_blocks.specs.Blocks.{BlockView}
-use Rattle.write_back.specs.Forms.{cut_of}
 use Rattle.write_back.proofs.States.{in_range}
 use Rattle.strip_copies.specs.Pieces.{piece_rect}
 use Rattle.strip_copies.specs.Rows.{IsHeldIn}
-use Rattle.output_copies.specs.Packed.{HoldsFront, IsBlockFor}
-use Rattle.output_copies.specs.Parts.{AreReadIn}
+use Rattle.output_copies.specs.Packed.{HoldsFront}
 use Rattle.output_copies.specs.Steps.{raster_of}
 use Rattle.output_copies.proofs.Fronts.{front_set, held_at, pixel_at, place_fits}
-use Rattle.output_copies.proofs.Packs.{are_held, column_band, column_spots}
+use Rattle.output_copies.proofs.Packs.{are_held, column_spots}
 use Rattle.output_copies.proofs.records.put_column.Goals as goal
 
 pub bounds-samples-place : goal.bounds-samples-place

@@ -1,7 +1,6 @@
 use Rattle.std.proofs.Common.{◌≡◌, ◌+◌, ◌∙◌, ap, length, pos}
 use Rattle.std.proofs.lemmas.List.{length_push, length-replicate}
 use Rattle.std.proofs.lemmas.List.Elements.{All-push, All-same}
-use Rattle.geotransform.specs.declared.types.PixelType.{PixelType}
 use Rattle.band_blocks.specs.Blocks.{BlockView}
 use Rattle.output_copies.proofs.worker.block_room.Goals as goal
 

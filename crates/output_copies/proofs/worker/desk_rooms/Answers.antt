@@ -1,8 +1,7 @@
-use Rattle.std.proofs.Common.{◌≡◌, ◌∙◌, ◌≤◌, ◌*◌, ap, subst, arith, length, pos}
+use Rattle.std.proofs.Common.{◌≡◌, ◌∙◌, ◌*◌, ap, subst, arith, length, pos}
 use Rattle.std.specs.List.{All}
 use Rattle.std.proofs.lemmas.List.{length-replicate}
 use Rattle.band_blocks.specs.Blocks.{BlockView}
-use Rattle.output_copies.specs.Packed.{IsBlockFor}
 use Rattle.output_copies.proofs.worker.desk_rooms.Goals as goal
 
 pub returns-clause-desk : goal.returns-clause-desk

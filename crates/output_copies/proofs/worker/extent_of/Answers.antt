@@ -1,4 +1,4 @@
-use Rattle.std.proofs.Common.{◌≤◌, arith, refl}
+use Rattle.std.proofs.Common.{arith, refl}
 use Rattle.write_back.specs.Forms.{cut_of}
 use Rattle.output_copies.proofs.Packs.{some_blocks}
 use Rattle.output_copies.proofs.worker.extent_of.Goals as goal

@@ -1,5 +1,4 @@
-use Rattle.std.proofs.Common.{◌≡◌, ◌∙◌, ◌+◌, ◌≤◌, ◌<◌, arith, refl, sym, length}
-use Rattle.output_copies.specs.Packed.{AreDone, IsWorker}
+use Rattle.std.proofs.Common.{◌∙◌, arith, refl}
 use Rattle.output_copies.proofs.Hands.{all_renewed, answers_more}
 use Rattle.output_copies.proofs.worker.renew.Goals as goal
 
