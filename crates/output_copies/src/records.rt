@@ -203,7 +203,12 @@ fn make_columns<R: Threads + Sync, F: Folder, L: Ledger, S: Scene>(
 }
 
 // Packs the columns of a portion, each of which is whole.
-fn pack_columns<S: Scene>(task: &Task<S>, portion: Portion, records: &[Block], packed: &mut [PackedBlock])
+fn pack_columns<S: Scene>(
+    task: &Task<S>,
+    portion: Portion,
+    records: &[Block],
+    packed: &mut [PackedBlock],
+)
     requires task { IsTask task.now.translation.now.cat task.now.translation.now.id task.now.translation.now.plan
         task.now.packing task.now.form task.now.rows task.now.step }
     requires columns { (cut_of task.now.packing).by_columns ≡ true }

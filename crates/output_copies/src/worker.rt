@@ -151,7 +151,12 @@ fn packed_room(alloc: Global, count: usize, len: usize) -> Result<Vec<PackedBloc
 }
 
 // So many blocks of a type and a length.
-fn block_room(alloc: Global, count: u32, kind: PixelType, len: u32) -> Result<Vec<Block>, AllocError>
+fn block_room(
+    alloc: Global,
+    count: u32,
+    kind: PixelType,
+    len: u32,
+) -> Result<Vec<Block>, AllocError>
     ensures count { IfOk result (λ blocks. length blocks.items ≡ count) }
     ensures each { IfOk result (λ blocks. All (λ block. (block.kind ≡ kind) × (length block.samples ≡ len))
         blocks.items) }

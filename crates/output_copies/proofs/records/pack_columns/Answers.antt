@@ -87,8 +87,8 @@ returns-clause-made g c =
     let all : c.loop-x.x ≡ c.args.portion.end = omega (arith, c.requires.order, c.loop-x-test.false, c.loop-x.auto.x-end) in
     record {
       above = λ b y band low less. (
-        let first : 0 ≡ b = omega (arith, band, one) in
-        subst (λ n. IsMade g.S.Scene.told t.cat t.id t.plan w c.args.portion.top c.loop-x.packed n y) first (c.loop-x.invariant.done y low (omega (arith, all)))
-      );
+          let first : 0 ≡ b = omega (arith, band, one) in
+          subst (λ n. IsMade g.S.Scene.told t.cat t.id t.plan w c.args.portion.top c.loop-x.packed n y) first (c.loop-x.invariant.done y low (omega (arith, all)))
+          );
       beside = λ b y less low high. absurd (omega arith);
     }
