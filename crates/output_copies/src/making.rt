@@ -57,9 +57,11 @@ pub fn portion_of(extent: u32, rows: u32, first: u32, at: usize) -> Portion
     ensures few { result.end ≤ result.top + rows }
 {
     let extent = u64::from(extent);
-    let before = u64::from(first) + at as u64 * u64::from(rows);
+    let share = at as u64 * u64::from(rows);
+    let before = u64::from(first) + share;
     let top = before.min(extent);
-    let end = (before + u64::from(rows)).min(extent);
+    let after = before + u64::from(rows);
+    let end = after.min(extent);
     Portion {
         top: top as u32,
         end: end as u32,
@@ -70,7 +72,9 @@ pub fn portion_of(extent: u32, rows: u32, first: u32, at: usize) -> Portion
 pub fn place_of(bands: u32, band: u32, row: u32) -> usize
     ensures place { result ≡ place_in bands band row }
 {
-    row as usize * bands as usize + band as usize
+    let before = area(row, bands);
+    let place = before + band as usize;
+    place
 }
 
 // Packs lines of a band that were read, those of a portion that begins at `top`.

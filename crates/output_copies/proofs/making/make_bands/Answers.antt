@@ -18,6 +18,9 @@ loop-band-init g c =
       later = omega arith;
     }
 
+pub make_lines-requires-clause-long : goal.make_lines-requires-clause-long
+make_lines-requires-clause-long g c κs within = omega (arith, c.requires.long, c.loop-band.invariant.size)
+
 pub returns-clause-made : goal.returns-clause-made
 returns-clause-made g c =
     let t = c.args.task.now.translation.now in

@@ -20,6 +20,12 @@ loop-line-init g c =
       later = omega arith;
     }
 
+pub make_bands-requires-clause-order : goal.make_bands-requires-clause-order
+make_bands-requires-clause-order g c κs within = let some = c.requires.task.some_step in omega (arith, some, c.min.ensures, c.loop-line-test.true)
+
+pub loop-line-smaller : goal.loop-line-smaller
+loop-line-smaller g c = let some = c.requires.task.some_step in omega (arith, some, c.min.ensures, c.loop-line-test.true)
+
 pub make_bands-requires-clause-long : goal.make_bands-requires-clause-long
 make_bands-requires-clause-long g c κs within =
     let p = c.args.task.now.translation.now.plan in

@@ -78,6 +78,15 @@ returns-in_err-told-2-clause-ends g c =
 last_end : (extent blocks rows first count n end : ℕ) → end ≡ top_of extent rows first (n - 1 + 1) → extent ≡ blocks → count ≡ n - 1 + 1 → top_of blocks rows first count ≡ end
 last_end extent blocks rows first count n end is same all = ap (top_of blocks rows first) all ∙ ap (λ k. top_of k rows first (n - 1 + 1)) (sym same) ∙ sym is
 
+pub copy_round-requires-clause-some : goal.copy_round-requires-clause-some
+copy_round-requires-clause-some g c κs within = omega (arith, c.requires.some, c.loop-line.invariant.count)
+
+pub copy_round-requires-clause-few : goal.copy_round-requires-clause-few
+copy_round-requires-clause-few g c κs within = omega (arith, c.requires.few, c.loop-line.invariant.count)
+
+pub copy_round-requires-clause-told : goal.copy_round-requires-clause-told
+copy_round-requires-clause-told g c κs within = c.requires.told ∙ sym c.loop-line.invariant.names
+
 pub copy_round-requires-clause-first : goal.copy_round-requires-clause-first
 copy_round-requires-clause-first g c κs within = omega (arith, c.loop-line-test.true, c.extent_of-height.ensures.extent)
 

@@ -1,4 +1,4 @@
-use Rattle.std.proofs.Common.{◌∙◌, ap, arith, subst, ℕ, Err, Option}
+use Rattle.std.proofs.Common.{◌∙◌, ap, arith, subst, sym, ℕ, Err, Option}
 use Rattle.std.specs.Prelude.{OnOk}
 use Rattle.outside.specs.Outside.{Files}
 use Rattle.error_lines.specs.declared.faults.Fault.{Fault}
@@ -10,6 +10,18 @@ use Rattle.output_copies.proofs.Changes.{handed_on, memory_tells}
 use Rattle.output_copies.proofs.Ends.{ends_memory, ends_so, err_is}
 use Rattle.output_copies.proofs.Hands.{all_ready}
 use Rattle.output_copies.proofs.packed.copy_round.Goals as goal
+
+pub write_all-requires-clause-told : goal.write_all-requires-clause-told
+write_all-requires-clause-told g c κs within = c.requires.told ∙ sym c.in_ok-renew.ensures.names
+
+pub write_all-requires-clause-few : goal.write_all-requires-clause-few
+write_all-requires-clause-few g c κs within = omega (arith, c.requires.few, c.renew.auto.workers, c.make_all.auto.workers)
+
+pub write_all-requires-clause-written : goal.write_all-requires-clause-written
+write_all-requires-clause-written g c κs within =
+    let t = c.args.task.now.translation.now in
+    let w = c.args.task.now.packing in
+    subst (λ (o : Option Files). AreBlocksWritten o t.cat t.id t.plan w (cut_of w).by_columns c.args.target.now c.args.first) (sym c.in_ok-renew.ensures.names) c.requires.written
 
 pub returns-in_err-renew-clause-workers : goal.returns-in_err-renew-clause-workers
 returns-in_err-renew-clause-workers g c =

@@ -26,6 +26,9 @@ loop-at-init g c =
 top_is : (extent : ℕ) (blocks rows first at top : ℕ) → top ≡ top_of extent rows first at → extent ≡ blocks → top ≡ top_of blocks rows first at
 top_is extent blocks rows first at top is same = is ∙ ap (λ n. top_of n rows first at) same
 
+pub write_made-requires-clause-told : goal.write_made-requires-clause-told
+write_made-requires-clause-told g c κs within = c.requires.told ∙ sym c.loop-at.invariant.names
+
 pub write_made-requires-clause-end : goal.write_made-requires-clause-end
 write_made-requires-clause-end g c κs within = omega (arith, c.portion_of-portion.ensures.within, c.extent_of-extent.ensures.extent)
 

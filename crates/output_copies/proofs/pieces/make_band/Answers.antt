@@ -38,6 +38,9 @@ make_piece-requires-clause-piece g c κs within =
 pub make_piece-requires-clause-narrow : goal.make_piece-requires-clause-narrow
 make_piece-requires-clause-narrow g c κs within = omega (arith, c.min.ensures)
 
+pub loop-left-smaller : goal.loop-left-smaller
+loop-left-smaller g c = let some = c.requires.task.some_step in omega (arith, some, c.min.ensures, c.loop-left-test.true)
+
 pub returns-clause-made : goal.returns-clause-made
 returns-clause-made g c =
     let t = c.args.task.now.translation.now in

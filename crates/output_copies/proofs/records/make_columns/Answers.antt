@@ -35,6 +35,9 @@ make_rows-requires-clause-piece g c κs within =
 pub make_rows-requires-clause-low : goal.make_rows-requires-clause-low
 make_rows-requires-clause-low g c κs within = omega (arith, c.min.ensures)
 
+pub loop-line-smaller : goal.loop-line-smaller
+loop-line-smaller g c = let some = c.requires.task.some_step in omega (arith, some, c.min.ensures, c.loop-line-test.true)
+
 pub returns-clause-fronts : goal.returns-clause-fronts
 returns-clause-fronts g c =
     let t = c.args.task.now.translation.now in

@@ -1,4 +1,4 @@
-use Rattle.std.proofs.Common.{◌∙◌, arith, refl}
+use Rattle.std.proofs.Common.{◌∙◌, arith, refl, sym}
 use Rattle.output_copies.proofs.Hands.{all_renewed, answers_more}
 use Rattle.output_copies.proofs.worker.renew.Goals as goal
 
@@ -9,6 +9,9 @@ loop-at-init g c = record {
   names = refl;
   later = omega arith;
 }
+
+pub renew_one-requires-clause-told : goal.renew_one-requires-clause-told
+renew_one-requires-clause-told g c κs within = c.requires.told ∙ sym c.loop-at.invariant.names
 
 pub renew_one-requires-clause-worker : goal.renew_one-requires-clause-worker
 renew_one-requires-clause-worker g c κs within = (c.loop-at.invariant.done c.loop-at.at _ c.loop-at-test.true).worker
