@@ -1,5 +1,5 @@
 -- The first samples of a block, that were read.
-use Rattle.std.proofs.Common.{◌≡◌, ◌∙◌, ap, sym, subst, ℕ, ℤ, pos, ◌+◌, ◌-◌, ◌*◌, ◌/◌, ◌<◌, ◌≤◌, arith, length, get_or, take, drop, inl, inr, Bool, false, List, Option, Some}
+use Rattle.std.proofs.Common.{◌≡◌, ◌∙◌, ap, sym, subst, ℕ, ℤ, pos, ◌+◌, ◌-◌, ◌*◌, ◌/◌, ◌<◌, ◌≤◌, arith, length, length-append, get_or, ◌++◌, take, drop, inl, inr, Bool, false, List, Option, Some}
 use Rattle.std.specs.Prelude.{slice_get, slice_set}
 use Rattle.std.specs.List.{All}
 use Rattle.std.proofs.lemmas.Bool.{cases_lt}
@@ -19,7 +19,7 @@ use Rattle.strip_copies.specs.declared.pieces.Piece.{Piece}
 use Rattle.strip_copies.specs.Copies.{lines_rect}
 use Rattle.strip_copies.specs.Pieces.{piece_rect}
 use Rattle.strip_copies.specs.Rows.{IsHeldIn}
-use Rattle.output_copies.specs.Packed.{spot_pixel, HoldsFront}
+use Rattle.output_copies.specs.Packed.{spot_pixel, HasRows, HoldsFront}
 use Rattle.output_copies.specs.Parts.{AreRead, AreReadIn}
 use Rattle.output_copies.specs.Steps.{raster_of}
 
@@ -88,26 +88,41 @@ module _ (told : Option Files) (cat : List Dataset) (id : ℕ) (p : Planned) (co
     ]);
   }
 
-  -- one sample was put behind the first ones
-  pub front_set : (at : ℕ) (v : ℤ) (old : List ℤ) → at < length old → HoldsFront told cat id p columns band block at old → IsHeldIn p band v
-      → ((m : Files) (d : Dataset) → told ≡ Some m → slice_get cat id ≡ Some d → v ≡ spot_pixel columns (raster_of m d p band) block at)
-      → HoldsFront told cat id p columns band block (at + 1) (slice_set old at v)
-  front_set at v old fits before held pixel = record {
-    held = λ u less. elim (cases_lt u at) [
-      | inl low ↦ subst (IsHeldIn p band) (sym (get_or-set_other old at u v (pos 0) (λ same. absurd (omega arith)))) (before.held u low)
-      | inr high ↦ (
-          let last : at ≡ u = omega arith in
-          subst (λ n. IsHeldIn p band (get_or (slice_set old at v) n (pos 0))) last (subst (IsHeldIn p band) (sym (get_or-set_same old at v (pos 0) fits)) held)
-          )
-    ];
-    pixels = λ m d e f u less. elim (cases_lt u at) [
-      | inl low ↦ get_or-set_other old at u v (pos 0) (λ same. absurd (omega arith)) ∙ before.pixels m d e f u low
-      | inr high ↦ (
-          let last : at ≡ u = omega arith in
-          subst (λ n. get_or (slice_set old at v) n (pos 0) ≡ spot_pixel columns (raster_of m d p band) block n) last (get_or-set_same old at v (pos 0) fits ∙ pixel m d e f)
-          )
-    ];
-  }
+-- one sample more of a column was taken
+pub gather_more : (samples run : List ℤ) (row wide at : ℕ) (v : ℤ) → row < length run → v ≡ get_or samples (row * wide + at) (pos 0) → HasRows samples wide at row run → HasRows samples wide at (row + 1) (slice_set run row v)
+gather_more samples run row wide at v within is so_far = λ r less. elim (cases_lt r row) [
+  | inl before ↦ get_or-set_other run row r v (pos 0) (λ same. absurd (omega arith)) ∙ so_far r before
+  | inr here ↦ (
+      let last : row ≡ r = omega arith in
+      subst (λ n. get_or (slice_set run row v) n (pos 0) ≡ get_or samples (n * wide + at) (pos 0)) last (get_or-set_same run row v (pos 0) within ∙ is)
+      )
+]
+
+-- each sample of it can be held
+pub column_held : (told : Option Files) (cat : List Dataset) (id : ℕ) (p : Planned) (piece : Piece) (samples : List ℤ) → AreReadIn told cat id p piece.band (piece_rect piece) samples → (at : ℕ) → at < piece.right - piece.left → (xs : List ℤ) → length xs ≡ piece.end - piece.first → HasRows samples (piece.right - piece.left) at (length xs) xs → All (IsHeldIn p piece.band) xs
+column_held told cat id p piece samples read at column xs long rows = λ k d less. subst (IsHeldIn p piece.band) (get_or_default xs k (pos 0) d less) (subst (IsHeldIn p piece.band) (sym (rows k less)) (held_at told cat id p piece.band (piece_rect piece) samples read at k column (omega (arith, less, long))))
+
+-- samples that are put into a list leave its length
+pub long_written : (at : ℕ) (xs old : List ℤ) → at + length xs ≤ length old → length (written at xs old) ≡ length old
+long_written at xs old fits =
+    let a = length-append (take at old ++ xs) (drop (at + length xs) old) in
+    let b = length-append (take at old) xs in
+    let c = length-take-le at old (omega (arith, fits)) in
+    let d = length-drop (at + length xs) old in
+    omega (arith, a, b, c, d, fits)
+
+-- a column of a piece that was read, put below the samples that stand above it
+pub column_front : (told : Option Files) (cat : List Dataset) (id : ℕ) (p : Planned) (piece : Piece) (samples : List ℤ) → AreReadIn told cat id p piece.band (piece_rect piece) samples → piece.band ≡ 0 → (at : ℕ) → at < piece.right - piece.left → (xs old new : List ℤ) → length xs ≡ piece.end - piece.first → piece.first < piece.end → HasRows samples (piece.right - piece.left) at (length xs) xs
+    → new ≡ written piece.first xs old → piece.end ≤ length old → HoldsFront told cat id p true 0 (piece.left + at) piece.first old → HoldsFront told cat id p true 0 (piece.left + at) piece.end new
+column_front told cat id p piece samples read zero at column xs old new long some rows packed fits before =
+    let end : piece.first + length xs ≡ piece.end = omega (arith, long, some) in
+    subst (λ n. HoldsFront told cat id p true 0 (piece.left + at) n new) end
+    (front_more told cat id p true 0 (piece.left + at) piece.first xs old new packed (omega (arith, end, fits)) before
+    (λ k less. subst (λ b. IsHeldIn p b (get_or xs k (pos 0))) zero (subst (IsHeldIn p piece.band) (sym (rows k less)) (held_at told cat id p piece.band (piece_rect piece) samples read at k column (omega (arith, less, long)))))
+    (λ m d e f k less.
+    rows k less
+    ∙ pixel_at told cat id p piece.band (piece_rect piece) samples read m d e f at k column (omega (arith, less, long))
+    ∙ ap (λ b. raster_of m d p b (piece.left + at) (piece.first + k)) zero))
 
 -- each sample of a whole block can be held
 pub front_held : (told : Option Files) (cat : List Dataset) (id : ℕ) (p : Planned) (columns : Bool) (band block n : ℕ) (xs : List ℤ) → length xs ≡ n → HoldsFront told cat id p columns band block n xs → All (IsHeldIn p band) xs

@@ -48,6 +48,10 @@ abbrev pub spot_pixel : Bool → (ℕ → ℕ → ℤ) → ℕ → ℕ → ℤ
 spot_pixel true f block spot = f block spot
 spot_pixel false f block spot = f spot block
 
+-- the first n samples of a run are those of a column of rows of this width that stand one behind the other
+abbrev pub HasRows : List ℤ → ℕ → ℕ → ℕ → List ℤ → Type 0
+HasRows samples wide at n run = (r : ℕ) → r < n → get_or run r (pos 0) ≡ get_or samples (r * wide + at) (pos 0)
+
 -- The first n samples of a block of a band, a column or a line: the output can hold each, and over a folder that tells
 -- its files they are those of the plan's raster.
 pub record HoldsFront (told : Option Files) (cat : List Dataset) (id : ℕ) (p : Planned) (by_columns : Bool)

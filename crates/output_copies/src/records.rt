@@ -1,5 +1,5 @@
 // Columns of a cell, which a worker makes some lines at a time.
-ghost use Rattle.std.specs.Prelude.{◌≡◌, ◌<◌, ◌≤◌, ◌+◌, ◌-◌, ◌*◌, IfErr, OnOk, length, true};
+ghost use Rattle.std.specs.Prelude.{◌≡◌, ◌<◌, ◌≤◌, ◌+◌, ◌-◌, ◌*◌, IfErr, IfOk, OnOk, length, true};
 ghost use Rattle.std.specs.List.{All};
 ghost use Rattle.lane_teams.specs.Ready.{AreLanesReady};
 ghost use Rattle.strip_copies.specs.declared.portions.Form.TheVariants.{Records};
@@ -8,7 +8,7 @@ ghost use Rattle.strip_copies.specs.Pieces.{piece_rect, IsPiece};
 ghost use Rattle.write_back.specs.Forms.{cut_of};
 ghost use Rattle.write_back.specs.Packed.{block_len};
 ghost use Rattle.output_copies.specs.Copying.{MayEnd, TellsChange};
-ghost use Rattle.output_copies.specs.Packed.{AreColumnFronts, AreMade, HoldsFront, IsBlockFor, IsDesk, IsTask};
+ghost use Rattle.output_copies.specs.Packed.{AreColumnFronts, AreMade, HasRows, HoldsFront, IsBlockFor, IsDesk, IsTask};
 ghost use Rattle.output_copies.specs.Parts.{AreReadIn, BeginsWithIn};
 
 use crate::making::{Portion, place_of};
@@ -23,12 +23,24 @@ use std::sync::ledger::Ledger;
 use std::thread::Threads;
 use strip_copies::{Piece, StripReader};
 
-// Puts the samples of a column of a piece into the column's block, below those that stand in it.
+// Takes the samples of a column of rows that stand one behind the other.
+fn gather(samples: &[Sample], wide: usize, at: usize, run: &mut [Sample])
+    requires at { at < wide }
+    requires room { length run.old * wide ≤ length samples.now }
+    ensures run { HasRows samples.now wide at (length run.old) run.new }
+{
+    for row in 0..run.len() {
+        run[row] = samples[row * wide + at];
+    }
+}
+
+// Puts the samples of a column of a piece into the column's block, below those that stand in it, through a room.
 fn put_column<S: Scene>(
     task: &Task<S>,
     piece: Piece,
     at: u32,
     samples: &[Sample],
+    room: &mut [Sample],
     column: &mut Block,
 )
     requires task { IsTask task.now.translation.now.cat task.now.translation.now.id task.now.translation.now.plan
@@ -39,6 +51,7 @@ fn put_column<S: Scene>(
     requires at { at < piece.right - piece.left }
     requires read { AreReadIn S.told task.now.translation.now.cat task.now.translation.now.id
         task.now.translation.now.plan piece.band (piece_rect piece) samples.now }
+    requires room { piece.end - piece.first ≤ length room.old }
     requires block { IsBlockFor task.now.packing column.old }
     requires front { HoldsFront S.told task.now.translation.now.cat task.now.translation.now.id
         task.now.translation.now.plan true 0 (piece.left + at) piece.first column.old.samples }
@@ -48,16 +61,21 @@ fn put_column<S: Scene>(
 {
     // This call is made for the proof: it says what every plan keeps.
     task.translation.plan.rules();
-    let wide = piece.right - piece.left;
-    for line in piece.first..piece.end {
-        let place = place_of(wide, at, line - piece.first);
-        let sample = samples[place];
-        column.set(line, sample);
-    }
+    let wide = (piece.right - piece.left) as usize;
+    let rows = (piece.end - piece.first) as usize;
+    let (run, _) = room.split_at_mut(rows);
+    gather(samples, wide, at as usize, run);
+    column.write_run(piece.first, run);
 }
 
 // The same, of all columns of a piece.
-fn put_columns<S: Scene>(task: &Task<S>, piece: Piece, samples: &[Sample], records: &mut [Block])
+fn put_columns<S: Scene>(
+    task: &Task<S>,
+    piece: Piece,
+    samples: &[Sample],
+    room: &mut [Sample],
+    records: &mut [Block],
+)
     requires task { IsTask task.now.translation.now.cat task.now.translation.now.id task.now.translation.now.plan
         task.now.packing task.now.form task.now.rows task.now.step }
     requires columns { (cut_of task.now.packing).by_columns ≡ true }
@@ -65,6 +83,7 @@ fn put_columns<S: Scene>(task: &Task<S>, piece: Piece, samples: &[Sample], recor
     requires band { piece.band ≡ 0 }
     requires read { AreReadIn S.told task.now.translation.now.cat task.now.translation.now.id
         task.now.translation.now.plan piece.band (piece_rect piece) samples.now }
+    requires room { piece.end - piece.first ≤ length room.old }
     requires few { piece.right - piece.left ≤ length records.old }
     requires blocks { All (IsBlockFor task.now.packing) records.old }
     requires fronts { AreColumnFronts S.told task.now.translation.now.cat task.now.translation.now.id
@@ -76,20 +95,27 @@ fn put_columns<S: Scene>(task: &Task<S>, piece: Piece, samples: &[Sample], recor
     let wide = piece.right - piece.left;
     for at in 0..wide {
         let column = at as usize;
-        put_column(task, piece, at, samples, &mut records[column]);
+        put_column(task, piece, at, samples, room, &mut records[column]);
     }
 }
 
 // The same, of a piece that a room begins with.
-fn put_front<S: Scene>(task: &Task<S>, piece: Piece, room: &[Sample], records: &mut [Block])
+fn put_front<S: Scene>(
+    task: &Task<S>,
+    piece: Piece,
+    front: &[Sample],
+    room: &mut [Sample],
+    records: &mut [Block],
+)
     requires task { IsTask task.now.translation.now.cat task.now.translation.now.id task.now.translation.now.plan
         task.now.packing task.now.form task.now.rows task.now.step }
     requires columns { (cut_of task.now.packing).by_columns ≡ true }
     requires piece { IsPiece task.now.translation.now.plan piece }
     requires band { piece.band ≡ 0 }
-    requires long { (piece.right - piece.left) * (piece.end - piece.first) ≤ length room.now }
+    requires long { (piece.right - piece.left) * (piece.end - piece.first) ≤ length front.now }
     requires read { BeginsWithIn S.told task.now.translation.now.cat task.now.translation.now.id
-        task.now.translation.now.plan piece.band (piece_rect piece) room.now }
+        task.now.translation.now.plan piece.band (piece_rect piece) front.now }
+    requires room { piece.end - piece.first ≤ length room.old }
     requires few { piece.right - piece.left ≤ length records.old }
     requires blocks { All (IsBlockFor task.now.packing) records.old }
     requires fronts { AreColumnFronts S.told task.now.translation.now.cat task.now.translation.now.id
@@ -99,8 +125,8 @@ fn put_front<S: Scene>(task: &Task<S>, piece: Piece, room: &[Sample], records: &
         task.now.translation.now.plan task.now.packing piece.left (piece.right - piece.left) piece.end records.new }
 {
     let count = area(piece.right - piece.left, piece.end - piece.first);
-    let part = &room[..count];
-    put_columns(task, piece, part, records);
+    let part = &front[..count];
+    put_columns(task, piece, part, room, records);
 }
 
 // Reads a piece into the room of a desk, and puts its samples into its columns.
@@ -110,6 +136,7 @@ fn make_rows<R: Threads + Sync, F: Folder, L: Ledger, S: Scene>(
     reader: &mut StripReader<F, L>,
     desk: &mut Desk<F>,
     piece: Piece,
+    run: &mut [Sample],
 ) -> Result<(), Fault>
     requires task { IsTask task.now.translation.now.cat task.now.translation.now.id task.now.translation.now.plan
         task.now.packing task.now.form task.now.rows task.now.step }
@@ -124,6 +151,7 @@ fn make_rows<R: Threads + Sync, F: Folder, L: Ledger, S: Scene>(
     requires band { piece.band ≡ 0 }
     requires few { piece.right - piece.left ≤ task.now.rows }
     requires low { piece.end - piece.first ≤ task.now.step }
+    requires run { task.now.step ≤ length run.old }
     requires fronts { AreColumnFronts S.told task.now.translation.now.cat task.now.translation.now.id
         task.now.translation.now.plan task.now.packing piece.left (piece.right - piece.left) piece.first
         desk.old.records.items }
@@ -146,7 +174,7 @@ fn make_rows<R: Threads + Sync, F: Folder, L: Ledger, S: Scene>(
     fill_piece(rt, task.translation, reader, view, shared, piece, room)?;
     let samples = desk.room.as_slice();
     let records = desk.records.as_mut_slice();
-    put_front(task, piece, samples, records);
+    put_front(task, piece, samples, run, records);
     Ok(())
 }
 
@@ -157,6 +185,7 @@ fn make_columns<R: Threads + Sync, F: Folder, L: Ledger, S: Scene>(
     reader: &mut StripReader<F, L>,
     desk: &mut Desk<F>,
     portion: Portion,
+    run: &mut [Sample],
 ) -> Result<(), Fault>
     requires task { IsTask task.now.translation.now.cat task.now.translation.now.id task.now.translation.now.plan
         task.now.packing task.now.form task.now.rows task.now.step }
@@ -170,6 +199,7 @@ fn make_columns<R: Threads + Sync, F: Folder, L: Ledger, S: Scene>(
     requires order { portion.top < portion.end }
     requires end { portion.end ≤ task.now.translation.now.plan.size.w }
     requires few { portion.end ≤ portion.top + task.now.rows }
+    requires run { task.now.step ≤ length run.old }
     ensures fronts { OnOk result (AreColumnFronts S.told task.now.translation.now.cat task.now.translation.now.id
         task.now.translation.now.plan task.now.packing portion.top (portion.end - portion.top)
         task.now.translation.now.plan.size.h desk.new.records.items) }
@@ -196,7 +226,7 @@ fn make_columns<R: Threads + Sync, F: Folder, L: Ledger, S: Scene>(
             left: portion.top,
             right: portion.end,
         };
-        make_rows(rt, task, reader, desk, piece)?;
+        make_rows(rt, task, reader, desk, piece, run)?;
         line = end;
     }
     Ok(())
@@ -239,6 +269,16 @@ fn pack_columns<S: Scene>(
     }
 }
 
+// Room for the samples of a column that are put into it at once.
+fn run_room<S: Scene>(task: &Task<S>) -> Result<Vec<Sample>, Fault>
+    ensures long { IfOk result (λ run. task.now.step ≤ length run.items) }
+    ensures memory { IfErr result (λ f. f ≡ Fault.Memory) }
+{
+    let count = task.step as usize;
+    let run = vec![in task.translation.alloc; 0; count]?;
+    Ok(run)
+}
+
 // The columns of a portion, of which there are some.
 fn make_some<R: Threads + Sync, F: Folder, L: Ledger, S: Scene>(
     rt: &R,
@@ -271,7 +311,9 @@ fn make_some<R: Threads + Sync, F: Folder, L: Ledger, S: Scene>(
     ensures ends { MayEnd S.told (F.faults desk.old.view) (F.faults desk.new.view) 0 0 result }
     ensures changed { IfErr result (TellsChange task.now.translation.now.cat) }
 {
-    make_columns(rt, task, reader, desk, portion)?;
+    let mut run = run_room(task)?;
+    let room = run.as_mut_slice();
+    make_columns(rt, task, reader, desk, portion, room)?;
     let records = desk.records.as_slice();
     let packed = desk.packed.as_mut_slice();
     pack_columns(task, portion, records, packed);

@@ -32,6 +32,9 @@ make_rows-requires-clause-piece g c κs within =
       width = c.requires.end;
     }
 
+pub make_rows-requires-clause-run : goal.make_rows-requires-clause-run
+make_rows-requires-clause-run g c κs within = omega (arith, c.requires.run, c.loop-line.auto.run)
+
 pub make_rows-requires-clause-low : goal.make_rows-requires-clause-low
 make_rows-requires-clause-low g c κs within = omega (arith, c.min.ensures)
 

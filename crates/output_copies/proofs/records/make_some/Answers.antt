@@ -1,13 +1,31 @@
-use Rattle.std.proofs.Common.{◌≡◌, ◌∙◌, ◌-◌, ap, arith, length, subst, sym, ℕ, List}
+use Rattle.std.proofs.Common.{◌≡◌, ◌∙◌, ◌-◌, ap, arith, length, subst, sym, ℕ, List, Err}
 use Rattle.std.specs.List.{All}
 use Rattle.output_copies.proofs.Kept.{put_back}
 use Rattle.strip_copies.specs.Portions.{makes_columns}
 use Rattle.write_back.specs.Packed.{block_len}
 use Rattle.output_copies.specs.Copying.{TellsChange}
 use Rattle.output_copies.specs.Packed.{records_in, AreColumnFronts, AreMade, IsBlockFor}
-use Rattle.output_copies.proofs.Changes.{handed_on}
-use Rattle.output_copies.proofs.Ends.{ends_ok}
+use Rattle.error_lines.specs.declared.faults.Fault.{Fault}
+use Rattle.error_lines.specs.declared.faults.Fault.TheVariants.{Memory}
+use Rattle.output_copies.proofs.Changes.{handed_on, memory_tells}
+use Rattle.output_copies.proofs.Ends.{ends_memory, ends_ok, ends_so, err_is}
 use Rattle.output_copies.proofs.records.make_some.Goals as goal
+
+pub make_columns-requires-clause-run : goal.make_columns-requires-clause-run
+make_columns-requires-clause-run g c κs within = omega (arith, c.in_ok-run.ensures.long, ap length c.as_mut_slice-room.ensures.value)
+
+pub returns-in_err-run-clause-ends : goal.returns-in_err-run-clause-ends
+returns-in_err-run-clause-ends g c =
+    let x = c.in_err-run.field-0.0 in
+    let view = g.F.Folder.faults c.args.desk.now.view in
+    ends_so g.S.Scene.told view view 0 0 Memory c.from_residual.result (err_is c.from_residual.result x c.from_residual.ensures ∙ ap (λ (f : Fault). Err f) c.in_err-run.ensures.memory)
+    (ends_memory {T = Unit {0}} g.S.Scene.told view view 0 0 (omega arith) (omega arith))
+
+pub returns-in_err-run-clause-changed : goal.returns-in_err-run-clause-changed
+returns-in_err-run-clause-changed g c =
+    let cat = c.args.task.now.translation.now.cat in
+    let x = c.in_err-run.field-0.0 in
+    handed_on (TellsChange cat) x c.from_residual.result c.from_residual.ensures (memory_tells cat x c.in_err-run.ensures.memory)
 
 pub pack_columns-requires-clause-columns : goal.pack_columns-requires-clause-columns
 pack_columns-requires-clause-columns g c κs within = sym c.requires.task.columns ∙ ap makes_columns c.requires.form
@@ -63,4 +81,4 @@ pub returns-in_err-make_columns-clause-changed : goal.returns-in_err-make_column
 returns-in_err-make_columns-clause-changed g c =
     let cat = c.args.task.now.translation.now.cat in
     let x = c.in_err-make_columns.field-0.0 in
-    handed_on (TellsChange cat) x c.from_residual.result c.from_residual.ensures c.in_err-make_columns.ensures.changed
+    handed_on (TellsChange cat) x c.from_residual-in_err-make_columns.result c.from_residual-in_err-make_columns.ensures c.in_err-make_columns.ensures.changed

@@ -10,6 +10,9 @@ use Rattle.output_copies.proofs.records.put_columns.Goals as goal
 pub loop-at-init : goal.loop-at-init
 loop-at-init g c = record { blocks = c.requires.blocks; done = λ i d less. absurd (omega arith); rest = λ i d low less. c.requires.fronts i d less }
 
+pub put_column-requires-clause-room : goal.put_column-requires-clause-room
+put_column-requires-clause-room g c κs within = omega (arith, c.requires.room, c.loop-at.auto.room)
+
 pub put_column-requires-clause-block : goal.put_column-requires-clause-block
 put_column-requires-clause-block g c κs within = c.loop-at.invariant.blocks c.loop-at.at _ (omega (arith, c.requires.few, c.loop-at.auto.records, c.loop-at-test.true))
 
