@@ -163,6 +163,28 @@ impl Packing {
         }
     }
 
+    /// How many samples a block has.
+    pub fn spots(&self) -> u32
+        ensures spots { result ≡ (cut_of self.now).spots }
+    {
+        match &self.form {
+            PackedForm::Lines(head) => line_len(head),
+            PackedForm::Tile(side) => *side,
+            PackedForm::Columns(head) => head.points,
+        }
+    }
+
+    /// How many blocks a band has.
+    pub fn blocks(&self) -> u32
+        ensures blocks { result ≡ (cut_of self.now).blocks }
+    {
+        match &self.form {
+            PackedForm::Lines(head) => head.size.h,
+            PackedForm::Tile(side) => *side,
+            PackedForm::Columns(head) => head.lines,
+        }
+    }
+
     /// The bytes of a block.
     pub fn block_len(&self) -> usize
         ensures len { result ≡ block_len self.now }
