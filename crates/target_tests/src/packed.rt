@@ -1,5 +1,6 @@
-// Whole blocks that are put past the pool by their bytes: lines, lines into whose bytes samples were packed, and columns
-// of a cell. The files of the forms that have such blocks, the forms that have none, and calls of the folder that fail.
+// Whole blocks that are put past the pool by their bytes: lines, lines over whose bytes samples were packed, and
+// columns of a cell. The files of the forms that have such blocks, the forms that have none, and calls of the folder
+// that fail.
 ghost use Rattle.std.specs.Prelude.{◌≡◌, ◌<◌, [], length, true};
 ghost use Rattle.write_back.specs.Files.{IsTarget};
 ghost use Rattle.write_back.specs.Forms.{cut_of, AreHeld};
