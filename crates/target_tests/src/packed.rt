@@ -192,7 +192,7 @@ fn put_column<F: Folder, L: Ledger>(
 }
 
 // Puts what is put where it is a block of the output.
-fn put<F: Folder, L: Ledger>(
+fn put_block<F: Folder, L: Ledger>(
     alloc: Global,
     folder: &mut F,
     target: &mut Target<F>,
@@ -249,7 +249,7 @@ fn stays<F: Folder, L: Ledger>(
     requires output { target.output ≡ Blocks packing.now }
     requires empty { target.pool.entries ≡ [] }
 {
-    let again = put(alloc, folder, &mut target, packing, block, writes) == Err(cause);
+    let again = put_block(alloc, folder, &mut target, packing, block, writes) == Err(cause);
     let published = 0;
     let closed = target.close(folder, writes);
     again && closed == Err(CloseFault { published, cause })
@@ -274,7 +274,7 @@ fn carried<F: Folder, L: Ledger>(
 {
     let mut writes: Counter<L> = Counter::open(blank);
     for block in blocks {
-        match put(alloc, folder, &mut target, packing, *block, &mut writes) {
+        match put_block(alloc, folder, &mut target, packing, *block, &mut writes) {
             Ok(true) => {}
             Ok(false) => {
                 target.give_up(folder);
