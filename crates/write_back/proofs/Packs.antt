@@ -84,16 +84,14 @@ module _ (h : Head) (x n count : ℕ) (b ys : List ℕ) (a : ℕ) (at : a ≡ x 
       let f = piece_fits x n k (sample_len h.kind) from in
       same_sample (plain_of h) b (put_at a ys b) (k * sample_len h.kind) (ends k less) (put_len a ys b fits) (λ i small. put_past a ys b fits (k * sample_len h.kind + i) (omega arith))
 
-  here : (k : ℕ) → x ≤ k → k < x + n → sample_of (plain_of h) (put_at a ys b) k ≡ sample_of (plain_of h) ys (k - x)
-  here k low high =
-      let below_n : k - x < n = omega arith in
-      let more : suc (k - x) * sample_len h.kind ≤ n * sample_len h.kind = mul-le-mul_right (sample_len h.kind) below_n in
-      let e : suc (k - x) * sample_len h.kind ≡ (k - x) * sample_len h.kind + sample_len h.kind = grind arith in
-      let f = add-mul x (k - x) (sample_len h.kind) in
-      let g : (x + (k - x)) * sample_len h.kind ≡ k * sample_len h.kind = ap (λ m. m * sample_len h.kind) (let d : x + (k - x) ≡ k = omega arith in d) in
-      let place : a + (k - x) * sample_len h.kind ≡ k * sample_len h.kind = omega arith in
+  here : (i : ℕ) → i < n → sample_of (plain_of h) (put_at a ys b) (x + i) ≡ sample_of (plain_of h) ys i
+  here i less =
+      let more : suc i * sample_len h.kind ≤ n * sample_len h.kind = mul-le-mul_right (sample_len h.kind) less in
+      let e : suc i * sample_len h.kind ≡ i * sample_len h.kind + sample_len h.kind = grind arith in
+      let f = add-mul x i (sample_len h.kind) in
+      let place : a + i * sample_len h.kind ≡ (x + i) * sample_len h.kind = omega arith in
       sym (
-      ap (λ (l : List ℕ). value_of h.kind (number_in h.big (sample_len h.kind) l)) (stands-part (put_at a ys b) ys a ((k - x) * sample_len h.kind) (sample_len h.kind) (omega arith) (put_stands a ys b fits))
+      ap (λ (l : List ℕ). value_of h.kind (number_in h.big (sample_len h.kind) l)) (stands-part (put_at a ys b) ys a (i * sample_len h.kind) (sample_len h.kind) (omega arith) (put_stands a ys b fits))
       ∙ ap (λ m. sample_at (plain_of h) (drop m (put_at a ys b))) place
       )
 
@@ -110,7 +108,8 @@ module _ (h : Head) (x n count : ℕ) (b ys : List ℕ) (a : ℕ) (at : a ≡ x 
       written_here x samples old k room from (omega arith)
       ∙ ap (λ (l : List ℤ). get_or l (k - x) (pos 0)) (sym held)
       ∙ get_or-map-range_with_len (sample_of (plain_of h) ys) 0 n (k - x) (k - x) (pos 0) (omega arith) (zero-add (k - x))
-      ∙ sym (here k from high))
+      ∙ sym (here (k - x) (omega arith))
+      ∙ ap (sample_of (plain_of h) (put_at a ys b)) (let e : x + (k - x) ≡ k = omega arith in e))
       (λ (over : x + n ≤ k). written_past x samples old k room (omega arith) ∙ before k less ∙ sym (past k over less))
       (cases_lt k (x + n)))
       (cases_lt k x)))
