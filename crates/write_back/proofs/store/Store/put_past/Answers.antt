@@ -1,4 +1,4 @@
-use Rattle.std.proofs.Common.{◌<◌, ap, arith}
+use Rattle.std.proofs.Common.{ap, arith}
 use Rattle.block_cache.specs.Entries.{PoolView}
 use Rattle.write_back.specs.Packed.{in_bytes}
 use Rattle.write_back.specs.Seen.{known_in, state_of}
