@@ -1,4 +1,4 @@
-// Tests of `write_back`, by its public calls alone: windows through pools of each capacity, lines past them, the files
+// Tests of `write_back`, by its public calls alone: windows through pools of each capacity, blocks past them, the files
 // that are published, and calls of the folder that fail.
 #![tactic(auto)]
 
@@ -13,9 +13,9 @@ mod fixtures;
 #[cfg(test)]
 mod grids;
 #[cfg(test)]
-mod lines;
-#[cfg(test)]
 mod outputs;
+#[cfg(test)]
+mod packed;
 #[cfg(test)]
 mod pixels;
 #[cfg(test)]

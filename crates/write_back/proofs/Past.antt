@@ -1,41 +1,38 @@
--- A line of a band that is written past an empty pool, by its bytes.
-use Rattle.std.proofs.Common.{◌≡◌, ℕ, ℤ, pos, ◌+◌, ◌-◌, ◌*◌, ◌<◌, ◌≤◌, inl, inr, Bool, true, false, List, [], get_or, length, map, Option, Some, None, refl, sym, ap, ◌∙◌, subst, arith}
+-- A block of a band that is written past an empty pool, by its bytes.
+use Rattle.std.proofs.Common.{◌≡◌, ℕ, ℤ, pos, ◌+◌, ◌-◌, ◌*◌, ◌<◌, ◌≤◌, inl, inr, true, false, List, [], get_or, length, map, Option, Some, None, refl, sym, ap, ◌∙◌, subst, arith, zero-add}
 use Rattle.std.specs.Prelude.{Result, Ok, Err, OnOk}
 use Rattle.std.specs.Result.{result_err}
 use Rattle.std.specs.List.{range_with_len}
-use Rattle.std.proofs.lemmas.List.FromFn.{length-map-range_with_len, get_or-map-range_with_len}
+use Rattle.std.proofs.lemmas.List.FromFn.{length-map-range_with_len}
 use Rattle.geotransform.specs.declared.types.Rect.{Rect}
 use Rattle.outside.specs.Outside.{Files, put_at, Written}
-use Rattle.lists_and_answers.specs.Places.{StandsAt}
 use Rattle.esri_hdr.specs.declared.header_parts.Layout.{Layout}
 use Rattle.esri_hdr.specs.declared.header_parts.Layout.TheVariants.{Bil, Bip, Bsq}
 use Rattle.esri_hdr.specs.Head.{Head}
 use Rattle.interleaved_raw.specs.Raw.{strided_at}
-use Rattle.hgt_tiles.specs.Samples.{hgt_at, item_of, row_of}
-use Rattle.hgt_tiles.proofs.Rows.{row_stands}
+use Rattle.hgt_tiles.specs.Samples.{item_of, row_of}
+use Rattle.dted_records.specs.Places.{record_of}
 use Rattle.dted_records.specs.Records.{elevation_in}
 use Rattle.band_blocks.specs.declared.key.BlockKey.{BlockKey}
-use Rattle.block_cache.specs.declared.pool.Entry.{Entry}
-use Rattle.block_cache.specs.Entries.{PoolView, held_at}
+use Rattle.block_cache.specs.Entries.{PoolView}
 use Rattle.write_back.specs.declared.fault.TargetFault.{TargetFault}
 use Rattle.write_back.specs.declared.forms.Writer.{Writer}
 use Rattle.write_back.specs.declared.forms.Writer.TheVariants.{Raw, Hgt, Dted}
-use Rattle.write_back.specs.declared.writer.BandPlaces.{BandPlaces}
-use Rattle.write_back.specs.Forms.{band_total, cut_of, line_total, band_places_of, most_calls, needed_of, under, column_total, IsFormed, TellsMet}
-use Rattle.write_back.specs.Overlay.{held_in, line_key, line_rect, overlay, AreKept, HoldsDirty, IsBlockWritten, IsLineSet, IsPut, IsWindow, Stays, WasMet}
-use Rattle.write_back.specs.Packed.{in_bytes, line_in, AreLined, IsLined, Passes}
-use Rattle.write_back.specs.Pieces.{is_woven, band_places_by, plain_of, planes_by, spots_by, spots_of, AreBytes, IsRunWritten}
-use Rattle.write_back.specs.State.{StoreState, Changes, HasDraft, IsRight, Serves}
-use Rattle.write_back.specs.View.{Output, Blocks, Rows, SheetView, columns_of, lines_after, target_of, IsRightOn, IsSoundOn, Puts}
+use Rattle.write_back.specs.Columns.{Cell}
+use Rattle.write_back.specs.Forms.{band_total, cut_of, line_total, most_calls, needed_of, pixel_sample, pixel_sample_by, column_total, HasPixel, IsFormed, IsSpot, TellsMet}
+use Rattle.write_back.specs.Overlay.{line_key, line_rect, overlay, AreKept, IsBlockWritten, IsLineSet, IsWindow, Stays}
+use Rattle.write_back.specs.Packed.{block_rect, in_bytes, packed_in, packed_rect, IsApart, IsBlockOf, IsLined, Passes}
+use Rattle.write_back.specs.Pieces.{is_woven, plain_of, planes_by, spots_by, spots_of, AreBytes, IsRunWritten}
+use Rattle.write_back.specs.State.{StoreState, AreMet, Changes, HasDraft, IsRight, Serves}
+use Rattle.write_back.specs.View.{SheetView, target_of, IsSoundOn, Puts}
 use Rattle.write_back.specs.Files.{header_in, HasHeader, IsForm, IsTarget}
 use Rattle.write_back.proofs.Blocks.{raw_written, tile_put}
-use Rattle.write_back.proofs.Runs.{put_stands}
+use Rattle.write_back.proofs.CellBlocks.{cell_written}
+use Rattle.write_back.proofs.RecordBytes.{elevations}
 use Rattle.write_back.proofs.Sheets.{blocks_at, put_of}
-use Rattle.write_back.proofs.States.{set_changes, whole_spread}
 use Rattle.write_back.proofs.Windowed.{right_after}
-use Rattle.write_back.proofs.Woven.{places_put}
 
--- a line has as many samples as its block
+-- the bytes of a block have as many samples as the block
 pub length_in : (w : Writer) (bytes : List ℕ) → length (in_bytes w bytes) ≡ (cut_of w).spots
 length_in (Raw h) bytes = length-map-range_with_len (strided_at (plain_of h) bytes) 0 (spots_of h)
 length_in (Hgt side) bytes = length-map-range_with_len (item_of bytes) 0 side
@@ -67,8 +64,83 @@ lined_rows (Raw h) lined = refl
 lined_rows (Hgt side) lined = refl
 lined_rows (Dted c) lined = absurd (let clash : true ≡ false = lined.rows in cc)
 
-lined_lane : (w : Writer) (band : ℕ) → IsLined w → record { band = band; start = 0; stride = 1 } ≡ band_places_of w band 0
-lined_lane w band lined = sym (ap (λ t. band_places_by t (band_total w) band 0) lined.apart)
+-- where the samples of each block are of one band, the bands of the blocks are those of the raster
+pub apart_bands : (w : Writer) → IsApart w → (cut_of w).bands ≡ band_total w
+apart_bands (Raw h) apart = raw_planes h.layout h.bands apart
+apart_bands (Hgt side) apart = refl
+apart_bands (Dted c) apart = refl
+
+-- any bytes are those of a line
+pub lined_whole : (w : Writer) (block : ℕ) (bytes : List ℕ) → IsLined w → IsBlockOf w block bytes
+lined_whole (Raw h) block bytes lined = tt
+lined_whole (Hgt side) block bytes lined = tt
+lined_whole (Dted c) block bytes lined = absurd (let clash : true ≡ false = lined.rows in cc)
+
+-- the pixels of a block are a line, or a column
+pub lined_rect : (w : Writer) (block : ℕ) → IsLined w → block_rect w block ≡ line_rect 0 block (column_total w)
+lined_rect (Raw h) block lined = refl
+lined_rect (Hgt side) block lined = refl
+lined_rect (Dted c) block lined = absurd (let clash : true ≡ false = lined.rows in cc)
+
+pub column_rect : (w : Writer) (x : ℕ) → (cut_of w).by_columns ≡ true → block_rect w x ≡ record { x = x; y = 0; w = 1; h = line_total w }
+column_rect (Raw h) x columns = absurd (let clash : false ≡ true = columns in cc)
+column_rect (Hgt side) x columns = absurd (let clash : false ≡ true = columns in cc)
+column_rect (Dted c) x columns = refl
+
+-- a line that was set is a window
+module _ (w : Writer) (band block : ℕ) (line : List ℤ) (old new : ℕ → ℕ → ℕ → ℤ) (lined : IsLined w) (set : IsLineSet w (line_key band block) line old new) where
+  seen : (f : ℕ → ℕ → ℕ → ℤ) (k x y : ℕ) → pixel_sample w f k x y ≡ f k x y
+  seen f k x y =
+      ap (λ t. pixel_sample_by t (cut_of w).woven (band_total w) f k x y) lined.rows
+      ∙ ap (λ t. pixel_sample_by false t (band_total w) f k x y) lined.apart
+
+  place : (k x y : ℕ) → HasPixel w k x y → IsSpot w k x y
+  place k x y is = record {
+    band = subst (λ n. k < n) (sym (lined_bands w lined)) is.band;
+    spot = subst (λ n. x < n) (sym (lined_wide w lined)) is.column;
+    block = subst (λ n. y < n) (sym (lined_rows w lined)) is.line;
+  }
+
+  line_window : IsWindow w band (line_rect 0 block (column_total w)) line old new
+  line_window = record {
+    inside = λ x y wide high.
+        let first : y ≡ 0 = omega arith in
+        let here : x ≡ y * column_total w + x = (let e = ap (λ n. n * column_total w) first in omega arith) in
+        seen new band (0 + x) (block + y)
+        ∙ ap (λ n. new band n (block + y)) (zero-add x)
+        ∙ ap (new band x) (let e : block + y ≡ block = omega arith in e)
+        ∙ set.here x (subst (λ n. x < n) (sym (lined_wide w lined)) wide)
+        ∙ ap (λ n. get_or line n (pos 0)) here;
+    outside = λ k x y is apart_from.
+        let column = is.column in
+        seen new k x y
+        ∙ set.others k x y (place k x y is) (λ same.
+        let row : y ≡ block = ap (λ (j : BlockKey). j.block) same in
+        apart_from (record { band_is = ap (λ (j : BlockKey). j.band) same; left = omega arith; right = omega arith; top = omega arith; bottom = omega arith }))
+        ∙ sym (seen old k x y);
+  }
+
+-- so is a column
+column_window : (c : Cell) (band block : ℕ) (line : List ℤ) (old new : ℕ → ℕ → ℕ → ℤ) → IsLineSet (Dted c) (line_key band block) line old new → IsWindow (Dted c) band (block_rect (Dted c) block) line old new
+column_window c band block line old new set = record {
+  inside = λ x y wide high.
+      let first : x ≡ 0 = omega arith in
+      ap (λ n. new band n (block + x)) (zero-add y)
+      ∙ ap (new band y) (let e : block + x ≡ block = omega arith in e)
+      ∙ set.here y high
+      ∙ ap (λ n. get_or line n (pos 0)) (let e : y ≡ y * 1 + x = omega arith in e);
+  outside = λ k x y is apart_from.
+      let row = is.line in
+      set.others k y x (record { band = is.band; spot = is.line; block = is.column }) (λ same.
+      let column : x ≡ block = ap (λ (j : BlockKey). j.block) same in
+      apart_from (record { band_is = ap (λ (j : BlockKey). j.band) same; left = omega arith; right = omega arith; top = omega arith; bottom = omega arith }));
+}
+
+-- a block that was set is a window
+set_window : (w : Writer) (band block : ℕ) (line : List ℤ) (old new : ℕ → ℕ → ℕ → ℤ) → IsApart w → IsLineSet w (line_key band block) line old new → IsWindow w band (block_rect w block) line old new
+set_window (Raw h) band block line old new apart set = line_window (Raw h) band block line old new (record { rows = refl; apart = apart }) set
+set_window (Hgt side) band block line old new apart set = line_window (Hgt side) band block line old new (record { rows = refl; apart = refl }) set
+set_window (Dted c) band block line old new apart set = column_window c band block line old new set
 
 -- what a writer's call says of a block, by what its line's call says
 module _ {E : Type 0} (key : BlockKey) (bytes : List ℕ) (old new : Option (List ℕ)) where
@@ -93,6 +165,21 @@ module _ {E : Type 0} (key : BlockKey) (bytes : List ℕ) (old new : Option (Lis
       → OnOk r ((b : List ℕ) → old ≡ Some b → length b ≡ needed_of w → IsFormed w b → (c : List ℕ) × (new ≡ Some c) × IsBlockWritten w key (in_bytes w bytes) b c)
   tile_past w side r is file band line len small put =
       subst (λ v. OnOk r ((b : List ℕ) → old ≡ Some b → length b ≡ needed_of v → IsFormed v b → (c : List ℕ) × (new ≡ Some c) × IsBlockWritten v key (in_bytes v bytes) b c)) (sym is) (tile_done side r file band line len small put)
+
+  cell_done : (c : Cell) (r : Result (Unit {0}) E) → key.dataset ≡ 0 → key.band < 1 → key.block < c.head.lines → IsBlockOf (Dted c) key.block bytes → AreBytes bytes → OnOk r (Written (record_of c.head key.block) bytes old new)
+      → OnOk r ((b : List ℕ) → old ≡ Some b → length b ≡ needed_of (Dted c) → IsFormed (Dted c) b → (d : List ℕ) × (new ≡ Some d) × IsBlockWritten (Dted c) key (in_bytes (Dted c) bytes) b d)
+  cell_done c (Err e) file band line whole small put = put
+  cell_done c (Ok x) file band line whole small put = λ b told long formed. (
+    put_at (record_of c.head key.block) bytes b,
+    put b told,
+    subst (λ ys. IsBlockWritten (Dted c) key (in_bytes (Dted c) bytes) b (put_at (record_of c.head key.block) ys b)) (sym whole)
+        (cell_written c key (in_bytes (Dted c) bytes) b file band line (length_in (Dted c) bytes) (elevations c.head bytes small) (subst AreBytes whole small) long),
+  )
+
+  pub cell_past : (w : Writer) (c : Cell) (r : Result (Unit {0}) E) → w ≡ Dted c → key.dataset ≡ 0 → key.band < 1 → key.block < c.head.lines → IsBlockOf (Dted c) key.block bytes → AreBytes bytes → OnOk r (Written (record_of c.head key.block) bytes old new)
+      → OnOk r ((b : List ℕ) → old ≡ Some b → length b ≡ needed_of w → IsFormed w b → (d : List ℕ) × (new ≡ Some d) × IsBlockWritten w key (in_bytes w bytes) b d)
+  cell_past w c r is file band line whole small put =
+      subst (λ v. OnOk r ((b : List ℕ) → old ≡ Some b → length b ≡ needed_of v → IsFormed v b → (d : List ℕ) × (new ≡ Some d) × IsBlockWritten v key (in_bytes v bytes) b d)) (sym is) (cell_done c r file band line whole small put)
 
 -- nothing is held
 module _ (w : Writer) (key : BlockKey) (line : List ℤ) (b c : List ℕ) (put : IsBlockWritten w key line b c) where
@@ -121,38 +208,43 @@ module _ (w : Writer) (key : BlockKey) (line : List ℤ) (b c : List ℕ) (put :
     subst (λ es. Stays w es b es c) (sym none) none_stays,
   )
 
--- a line that was written so is a window
-pub past_window : (w : Writer) (p q : PoolView) (band y : ℕ) (bytes b c : List ℕ) (draft draft' : Option (List ℕ)) → IsLined w → q ≡ p → p.entries ≡ [] → band < band_total w → HasDraft w p draft b → IsBlockWritten w (line_key band y) (in_bytes w bytes) b c → draft' ≡ Some c
-    → (d : List ℕ) × HasDraft w q draft' d × IsWindow w band (line_rect 0 y (column_total w)) (in_bytes w bytes) (overlay w p.entries b) (overlay w q.entries d) × Stays w p.entries b q.entries d
-past_window w p q band y bytes b c draft draft' lined same none less has put now =
-    let m = past_changes w (line_key band y) (in_bytes w bytes) b c put p draft draft' none has now in
-    let long = length_in w bytes in
-    let wide = lined_wide w lined in
-    let held = length-map-range_with_len (λ u. under w b band u y) 0 (cut_of w).spots in
-    let room : (i : ℕ) → i < length (in_bytes w bytes) → 0 + i * 1 < (cut_of w).spots = (λ i inside. omega arith) in
-    let absent : held_at (line_key band y) p.entries ≡ None = ap (λ (es : List (BlockKey × Entry)). held_at (line_key band y) es) none in
-    let spread = whole_spread 0 1 (in_bytes w bytes) (held_in w b band y) refl (λ i inside. omega arith) (long ∙ sym held) in
-    let laid : IsPut w (record { band = band; start = 0; stride = 1 }) y (in_bytes w bytes) (overlay w p.entries b) (overlay w p.entries m.0) =
-    set_changes w p p (line_key band y) 0 1 (in_bytes w bytes) (in_bytes w bytes) b m.0 refl absent room spread m.2 in
-    let window = places_put w band 0 y (in_bytes w bytes) (overlay w p.entries b) (overlay w p.entries m.0) lined.rows less (subst (λ (l : BandPlaces). IsPut w l y (in_bytes w bytes) (overlay w p.entries b) (overlay w p.entries m.0)) (lined_lane w band lined) laid) in
-    let whole : IsWindow w band (line_rect 0 y (column_total w)) (in_bytes w bytes) (overlay w p.entries b) (overlay w p.entries m.0) =
-    subst (λ n. IsWindow w band (line_rect 0 y n) (in_bytes w bytes) (overlay w p.entries b) (overlay w p.entries m.0)) (long ∙ wide) window in
-    subst (λ (r : PoolView). (d : List ℕ) × HasDraft w r draft' d × IsWindow w band (line_rect 0 y (column_total w)) (in_bytes w bytes) (overlay w p.entries b) (overlay w r.entries d) × Stays w p.entries b r.entries d) (sym same) (m.0, m.1, whole, m.3)
+-- a block that was written so is a window
+pub past_window : (w : Writer) (p q : PoolView) (band block : ℕ) (bytes b c : List ℕ) (draft draft' : Option (List ℕ)) → IsApart w → q ≡ p → p.entries ≡ [] → HasDraft w p draft b → IsBlockWritten w (line_key band block) (in_bytes w bytes) b c → draft' ≡ Some c
+    → (d : List ℕ) × HasDraft w q draft' d × IsWindow w band (block_rect w block) (in_bytes w bytes) (overlay w p.entries b) (overlay w q.entries d) × Stays w p.entries b q.entries d
+past_window w p q band block bytes b c draft draft' apart same none has put now =
+    let m = past_changes w (line_key band block) (in_bytes w bytes) b c put p draft draft' none has now in
+    let window : IsWindow w band (block_rect w block) (in_bytes w bytes) (overlay w p.entries b) (overlay w p.entries m.0) = set_window w band block (in_bytes w bytes) (overlay w p.entries b) (overlay w p.entries m.0) apart m.2 in
+    subst (λ (r : PoolView). (d : List ℕ) × HasDraft w r draft' d × IsWindow w band (block_rect w block) (in_bytes w bytes) (overlay w p.entries b) (overlay w r.entries d) × Stays w p.entries b r.entries d) (sym same) (m.0, m.1, window, m.3)
 
--- what a contract sees of the data after such a line
+-- the column of a record that was written is met
+pub past_met : (w : Writer) (band block : ℕ) (samples : List ℤ) (s t : StoreState) → ((b : List ℕ) → s.draft ≡ Some b → length b ≡ needed_of w → IsFormed w b → (c : List ℕ) × (t.draft ≡ Some c) × IsBlockWritten w (line_key band block) samples b c)
+    → (cut_of w).by_columns ≡ true → AreMet w band (block_rect w block).x (block_rect w block).w s t
+past_met (Raw h) band block samples s t written columns = absurd (let clash : false ≡ true = columns in cc)
+past_met (Hgt side) band block samples s t written columns = absurd (let clash : false ≡ true = columns in cc)
+past_met (Dted cell) band block samples s t written columns = record {
+  each = λ b c has is i less.
+      let now = written b has.is has.long has.formed in
+      let both : Some now.0 ≡ Some c = sym now.1 ∙ is in
+      let same : now.0 ≡ c = cc in
+      let few : i < 1 = less in
+      let place : block ≡ block + i = omega arith in
+      inl (subst (TellsMet (Dted cell) c) place (subst (λ d. TellsMet (Dted cell) d block) same now.2.met));
+}
+
+-- what a contract sees of the data after such a block
 pub passes_of : (w w' : Writer) (s t : StoreState) (old new : SheetView) → blocks_at w s ≡ old → blocks_at w' t ≡ new → w' ≡ w → Serves w 1 1 s t → t.pool ≡ s.pool → t.writes ≡ s.writes + 1 → t.calls ≤ s.calls + most_calls w → Passes old new s.told t.told s.reads t.reads s.calls t.calls s.writes t.writes
 passes_of w w' s t old new is now same a pool one calls =
     subst (λ v. Passes v new s.told t.told s.reads t.reads s.calls t.calls s.writes t.writes) is
     (subst (λ v. Passes (blocks_at w s) v s.told t.told s.reads t.reads s.calls t.calls s.writes t.writes) (ap (λ u. blocks_at u t) (sym same) ∙ now)
     (record { sound = a.sound; output = refl; name = a.name; pool = pool; names = a.told; reads = a.reads; one = one; calls = calls }))
 
-pub line_of : (w w' : Writer) (band y : ℕ) (bytes : List ℕ) (s t : StoreState) (old new : SheetView) → blocks_at w s ≡ old → blocks_at w' t ≡ new → w' ≡ w → IsLined w → IsRight w s.told s.len s.draft s.pool → band < band_total w → t.told ≡ s.told
-    → Changes w (IsWindow w band (line_rect 0 y (column_total w)) (in_bytes w bytes)) s t → Puts band (line_rect 0 y (columns_of old.output)) (line_in old.output bytes) s.told t.told old new
-line_of w w' band y bytes s t old new is now same lined right less told changed =
-    subst (λ (v : SheetView). Puts band (line_rect 0 y (columns_of v.output)) (line_in v.output bytes) s.told t.told old new) is
-    (put_of w w' band (line_rect 0 y (column_total w)) (in_bytes w bytes) s t old new is now same right less told changed (λ columns. absurd (let clash : true ≡ false = sym columns ∙ lined.rows in cc)))
+pub past_of : (w w' : Writer) (band block : ℕ) (bytes : List ℕ) (s t : StoreState) (old new : SheetView) → blocks_at w s ≡ old → blocks_at w' t ≡ new → w' ≡ w → IsRight w s.told s.len s.draft s.pool → band < band_total w → t.told ≡ s.told
+    → Changes w (IsWindow w band (block_rect w block) (in_bytes w bytes)) s t → ((cut_of w).by_columns ≡ true → AreMet w band (block_rect w block).x (block_rect w block).w s t) → Puts band (packed_rect old.output block) (packed_in old.output bytes) s.told t.told old new
+past_of w w' band block bytes s t old new is now same right less told changed met =
+    subst (λ (v : SheetView). Puts band (packed_rect v.output block) (packed_in v.output bytes) s.told t.told old new) is
+    (put_of w w' band (block_rect w block) (in_bytes w bytes) s t old new is now same right less told changed met)
 
--- a target whose data took such a line
+-- a target whose data took such a block
 pub target_past : (band : ℕ) (rect : Rect) (samples : List ℤ) (told told' : Option Files) (r r' c c' w w' : ℕ) (s n : SheetView) (header : Option (Option (List ℕ) × List ℕ)) (done : Result (Unit {0}) TargetFault) (fault : Option TargetFault) → IsTarget told (target_of s header None)
     → Passes s n told told' r r' c c' w w' → OnOk done (Puts band rect samples told told' s n) → fault ≡ result_err done → IsTarget told' (target_of n header fault)
 target_past band rect samples told told' r r' c c' w w' s n header done fault was kept put is = record {

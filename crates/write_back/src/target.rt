@@ -12,8 +12,7 @@ ghost use Rattle.block_cache.specs.Entries.{pool_view, IsPool};
 ghost use Rattle.write_back.specs.declared.forms.Writer.TheVariants.{Raw, Hgt, Dted};
 ghost use Rattle.write_back.specs.declared.fault.TargetFault.{TargetFault};
 ghost use Rattle.write_back.specs.Columns.{cell_of};
-ghost use Rattle.write_back.specs.Overlay.{line_rect};
-ghost use Rattle.write_back.specs.Packed.{line_in, line_len, AreLined};
+ghost use Rattle.write_back.specs.Packed.{packed_blocks, packed_in, packed_len, packed_rect, AreApart, IsPackedOf};
 ghost use Rattle.write_back.specs.View.{Blocks, Rows, all_blocks, bands_of, window_blocks, calls_of, columns_of};
 ghost use Rattle.write_back.specs.View.{is_writable, lines_after, rows_of, AreWritable, IsNext, IsPooled};
 ghost use Rattle.write_back.specs.View.{MeetsAll, Shows};
@@ -348,33 +347,35 @@ impl<F: Folder> Target<F> {
         done
     }
 
-    /// Puts a whole line of a band, whose bytes these are, into the draft, where each block is such a line and the pool
-    /// holds none: as `write_window` does with the samples of these bytes, but past the pool. `writes` is ticked once.
-    pub fn write_line<L: Ledger>(
+    /// Puts a whole block of a band, whose bytes these are, into the draft past the pool, which holds none: a line, or
+    /// a column of a cell, whose bytes are those of its record. The samples of each block are of one band. It is as if
+    /// `write_window` were called with the samples of these bytes. `writes` is ticked once.
+    pub fn write_packed<L: Ledger>(
         &mut self,
         folder: &mut F,
         band: u32,
-        y: u32,
+        block: u32,
         bytes: &[u8],
         writes: &mut Counter<L>,
     ) -> Result<(), TargetFault>
         requires target { IsTarget (F.names folder.old) self.old }
-        requires lined { AreLined self.old.output }
+        requires apart { AreApart self.old.output }
         requires empty { self.old.pool.entries ≡ [] }
         requires band { band < bands_of self.old.output }
-        requires line { y < rows_of self.old.output }
-        requires bytes { length bytes.now ≡ line_len self.old.output }
+        requires block { block < packed_blocks self.old.output }
+        requires bytes { length bytes.now ≡ packed_len self.old.output }
+        requires whole { IsPackedOf self.old.output block bytes.now }
         ensures target { IsTarget (F.names folder.new) self.new }
         ensures output { self.new.output ≡ self.old.output }
         ensures name { self.new.name ≡ self.old.name }
         ensures pool { self.new.pool ≡ self.old.pool }
-        // the samples of the bytes stand in the line, and all others are as before
-        ensures overlay { OnOk result (Shows (F.names folder.old) band (line_rect 0 y (columns_of self.old.output))
-            (line_in self.old.output bytes.now) self.old self.new) }
-        ensures met { OnOk result (MeetsAll (F.names folder.old) (line_rect 0 y (columns_of self.old.output)) self.old
+        // the samples of the bytes stand in the block, and all others are as before
+        ensures overlay { OnOk result (Shows (F.names folder.old) band (packed_rect self.old.output block)
+            (packed_in self.old.output bytes.now) self.old self.new) }
+        ensures met { OnOk result (MeetsAll (F.names folder.old) (packed_rect self.old.output block) self.old
             self.new) }
         ensures lines { OnOk result (self.new.lines ≡ lines_after self.old.output self.old.lines
-            (line_rect 0 y (columns_of self.old.output))) }
+            (packed_rect self.old.output block)) }
         ensures fault { self.new.fault ≡ result_err result }
         ensures earlier { IfSome self.old.fault (λ f. result ≡ Err f) }
         ensures still { IsSome self.old.fault → F.faults folder.new ≡ F.faults folder.old }
@@ -391,7 +392,7 @@ impl<F: Folder> Target<F> {
         if let Some(fault) = self.fault {
             return Err(fault);
         }
-        let done = self.sheet.put_past(folder, band, y, bytes, writes);
+        let done = self.sheet.put_past(folder, band, block, bytes, writes);
         self.fault = done.err();
         done
     }

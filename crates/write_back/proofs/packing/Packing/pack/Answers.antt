@@ -1,4 +1,4 @@
-use Rattle.std.proofs.Common.{◌≡◌, ◌≤◌, ◌*◌, ap, sym, ◌∙◌, length, arith}
+use Rattle.std.proofs.Common.{◌≡◌, ◌*◌, true, false, ap, sym, ◌∙◌, length, arith}
 use Rattle.hgt_tiles.specs.Samples.{row_bytes}
 use Rattle.esri_hdr.specs.Head.{sample_len}
 use Rattle.write_back.specs.declared.forms.Writer.{Writer}
@@ -16,7 +16,7 @@ write_run-requires-clause-range c = rw c.requires.kind (in_range c.args.self.now
 pub encode_run-requires-clause-bytes : goal.encode_run-requires-clause-bytes
 encode_run-requires-clause-bytes c =
     let is = ap writer_by (sym c.in-Lines.is) ∙ c.self.view_is in
-    c.requires.bytes ∙ ap block_len (sym is) ∙ ap (λ n. n * sample_len c.in-Lines.head.now.kind) (sym c.line_len.ensures.len)
+    c.requires.bytes ∙ ap block_len (sym is) ∙ ap (λ n. n * sample_len c.in-Lines.head.kind) (sym c.line_len.ensures.len)
 
 pub encode_run-requires-clause-spots : goal.encode_run-requires-clause-spots
 encode_run-requires-clause-spots c =
@@ -62,3 +62,15 @@ pub returns-in-Tile-clause-count : goal.returns-in-Tile-clause-count
 returns-in-Tile-clause-count c =
     let set = block_is c.args.block.now c.write_run.new.self c.args.samples.now c.write_run.ensures.samples (omega (arith, c.requires.count, c.requires.size)) in
     ap length set ∙ c.requires.size ∙ sym c.requires.count
+
+pub returns-in-Lines-clause-kind : goal.returns-in-Lines-clause-kind
+returns-in-Lines-clause-kind c = ap (λ (b : BlockView). b.kind) c.write_run.ensures.samples
+
+pub returns-in-Tile-clause-kind : goal.returns-in-Tile-clause-kind
+returns-in-Tile-clause-kind c = ap (λ (b : BlockView). b.kind) c.write_run.ensures.samples
+
+pub unreachable-requires : goal.unreachable-requires
+unreachable-requires c =
+    let columns = ap (λ (w : Writer). (cut_of w).by_columns) (ap writer_by (sym c.in-Columns.is) ∙ c.self.view_is) in
+    let clash : true ≡ false = columns ∙ c.requires.lined.rows in
+    cc

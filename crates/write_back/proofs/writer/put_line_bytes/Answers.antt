@@ -1,4 +1,4 @@
-use Rattle.std.proofs.Common.{◌≡◌, ◌+◌, ◌≤◌, ◌<◌, arith, refl, subst, sym, ◌∙◌, length, map}
+use Rattle.std.proofs.Common.{◌<◌, arith, refl, subst, sym, map}
 use Rattle.std.specs.List.{range_with_len}
 use Rattle.std.proofs.lemmas.List.{take_all}
 use Rattle.std.proofs.lemmas.List.FromFn.{length-map-range_with_len}
@@ -7,7 +7,7 @@ use Rattle.interleaved_raw.specs.Raw.{strided_at}
 use Rattle.outside.specs.Outside.{put_at}
 use Rattle.write_back.specs.Pieces.{plain_of, spots_of, IsRunWritten}
 use Rattle.write_back.proofs.Runs.{on_ok, piece_written, run_within}
-use Rattle.write_back.proofs.passing.put_line.Goals as goal
+use Rattle.write_back.proofs.writer.put_line_bytes.Goals as goal
 
 pub spot_place-requires-clause-spot : goal.spot_place-requires-clause-spot
 spot_place-requires-clause-spot g c = subst (λ n. 0 < n) c.line_len-len.ensures.len c.line_len-len.ensures.some
