@@ -3,6 +3,7 @@ mod Examples
 pub mod Grown
 pub mod Holdings
 pub mod Joined
+mod Pieces
 mod Portions
 pub mod Samples
 pub mod Sources

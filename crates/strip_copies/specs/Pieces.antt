@@ -7,7 +7,7 @@ use Rattle.catalog.specs.Drivers.{Dataset}
 use Rattle.translate_plan.specs.Plan.{Planned}
 use Rattle.strip_copies.specs.declared.pieces.Piece.{Piece}
 
--- so many columns, or lines, behind an offset lie on a side
+-- so many columns, or lines, from an offset on lie on a side
 abbrev pub lies_on : ℕ → ℤ → ℕ → Bool
 lies_on side offset count = int_le (pos 0) offset && int_le (offset +ℤ pos count) (pos side)
 

@@ -1,6 +1,6 @@
 -- How several workers share an output that they pack: its lines, or its columns.
-use Rattle.std.specs.Prelude.{◌≡◌, ◌*◌, ◌/◌, ◌&&◌, ℕ, min, nat_lt, nat_le, Bool, true, false, List, length, Option, Some, None}
-use Rattle.std.specs.Prelude.{if◌then◌else◌}
+use Rattle.std.specs.Prelude.{◌≡◌, ◌*◌, ◌/◌, ◌&&◌, ℕ, min, nat_lt, nat_le, Bool, true, false, List, length, Option}
+use Rattle.std.specs.Prelude.{Some, None, if◌then◌else◌}
 use Rattle.std.specs.Int.{div_ceil}
 use Rattle.geotransform.specs.declared.types.Size.{Size}
 use Rattle.catalog.specs.Drivers.{Dataset}

@@ -171,8 +171,8 @@ fn is_shared(translation: &Translation, workers: WorkerCount) -> bool
     count > 1 && share >= fewest_read(cat)
 }
 
-/// The lines of so many columns whose samples stay in a processor's cache: 65,536 samples, which are 1 MiB; at least one
-/// line, and at most so many.
+/// The lines of so many columns whose samples stay in a processor's cache: 65,536 samples, which are 1 MiB; at least
+/// one line, and at most so many.
 pub fn lines_near(most: u32, width: u32) -> u32
     requires some { 0 < width }
     requires lines { 1 ≤ most }

@@ -1,6 +1,6 @@
 // Pieces of an output that are copied from its source.
 ghost use Rattle.std.specs.Prelude.{◌≡◌, ◌≤◌, ◌+◌, ◌-◌, ◌*◌, All, IfErr, OnOk, Some, length, map, slice_get};
-ghost use Rattle.std.specs.Prelude.{unsigned_abs};
+ghost use Rattle.std.specs.Prelude.{◌+ℤ◌, pos, unsigned_abs};
 ghost use Rattle.geotransform.specs.Limits.{farthest, most_side};
 ghost use Rattle.outside.specs.Causes.{HasCause};
 ghost use Rattle.outside.specs.Reading.{WhereTold};
@@ -46,12 +46,20 @@ pub struct Piece {
     pub right: u32,
 }
 
-// Whether so many columns, or lines, behind an offset lie on a side.
+// The column, or the line, behind so many from an offset on.
+fn end_behind(offset: i64, count: u32) -> i64
+    requires far { unsigned_abs offset ≤ farthest }
+    ensures end { result ≡ offset +ℤ pos count }
+{
+    offset + count as i64
+}
+
+// Whether so many columns, or lines, from an offset on lie on a side.
 fn lies_on(side: u32, offset: i64, count: u32) -> bool
     requires far { unsigned_abs offset ≤ farthest }
     ensures lies { result ≡ lies_on side offset count }
 {
-    offset >= 0 && offset + count as i64 <= side as i64
+    offset >= 0 && end_behind(offset, count) <= side as i64
 }
 
 /// Whether each sample of a plan is that of one pixel of a source of this size: nothing is scaled, and all that is

@@ -261,8 +261,8 @@ fn portions_by(translation: &Translation, workers: u32) -> Option<Portions>
 /// 1,000,000 samples come to each, where a line alone is more than each may pack at a time, over a mosaic of cells, and
 /// where a cell is read or written, and samples aren't copied or both are cells.
 ///
-/// All workers together make 8,388,608 samples of lines at most at a time, and 16,777,216 of what is copied from or into
-/// a cell.
+/// All workers together make 8,388,608 samples of lines at most at a time, and 16,777,216 of what is copied from a cell
+/// or into one.
 pub fn portions_of(translation: &Translation, workers: WorkerCount) -> Option<Portions>
     requires translation { IsTranslation translation.now.cat translation.now.id translation.now.plan }
     ensures portions { (d : Dataset) → slice_get translation.now.cat translation.now.id ≡ Some d →
