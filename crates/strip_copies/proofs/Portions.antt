@@ -2,7 +2,7 @@
 use Rattle.std.proofs.Common.{◌≡◌, ℕ, ◌+◌, ◌*◌, ◌/◌, ◌%◌, ◌<◌, ◌≤◌, ◌∙◌, ap, sym, subst, refl, min, Bool, true, false, List, Option, Some, None, inl, inr, arith}
 use Rattle.std.specs.Prelude.{nat_lt, slice_get, if◌then◌else◌}
 use Rattle.std.proofs.Math.Nat.{add-mul, div-le_self, div-mul-le_self, mod-lt, mul-le-mul, mul-le-mul_right, mul_comm}
-use Rattle.std.proofs.lemmas.Bool.{cases_lt, lt-ltb}
+use Rattle.std.proofs.lemmas.Bool.{cases_lt, le-ltb, lt-ltb}
 use Rattle.std.proofs.lemmas.Nat.{div-add-mod'}
 use Rattle.catalog.specs.Drivers.{Dataset}
 use Rattle.translate_plan.specs.Plan.{Planned}
@@ -12,7 +12,7 @@ use Rattle.strip_copies.specs.declared.portions.Form.TheVariants.{Lines, Pieces,
 use Rattle.strip_copies.specs.declared.portions.Portions.{Portions}
 use Rattle.strip_copies.specs.Heights.{has_blocks, is_cell}
 use Rattle.strip_copies.specs.Pieces.{is_copied, IsCopied}
-use Rattle.strip_copies.specs.Portions.{extent_of, form_of, form_of_columns, has_columns, makes_columns, portions_by, portions_in, reads_pieces, rows_of, share_of_each, step_of, TakesForm}
+use Rattle.strip_copies.specs.Portions.{extent_of, form_of, form_of_columns, has_columns, makes_columns, pays, portions_by, portions_in, portions_of, reads_pieces, rows_of, share_of_each, step_of, TakesForm}
 
 -- a line of all bands has so few samples, and some
 pub line_few : (w n : ℕ) → w ≤ 4194304 → n ≤ 256 → w * n ≤ 1073741824
@@ -122,9 +122,27 @@ portions_found form workers cat p most extent rows step some share long many eac
     portion_is form rows step all (step_of form cat p all) here there
     ∙ sym (ap (λ (t : Bool). if t then portion form all (step_of form cat p all) else None) test)
 
+-- none where a share has nothing
+pub portions_missed : (form : Form) (workers : ℕ) (cat : List Dataset) (p : Planned) (most : ℕ) → most ≡ 0 → most ≡ share_of_each form workers p → None ≡ portions_in form workers cat p
+portions_missed form workers cat p most none share =
+    let all = rows_of (extent_of form p.size) (share_of_each form workers p) workers in
+    let test : nat_lt 0 (share_of_each form workers p) ≡ false = le-ltb 0 (share_of_each form workers p) (subst (λ n. n ≤ 0) share (omega arith)) in
+    sym (ap (λ (t : Bool). if t then portion form all (step_of form cat p all) else None) test)
+
 -- portions of a form that was found
 pub portions_shared : (workers : ℕ) (cat : List Dataset) (p : Planned) (form : Form) (found : Option Form) (r : Option Portions) → Some form ≡ found → r ≡ portions_in form workers cat p → r ≡ portions_by found workers cat p
 portions_shared workers cat p form found r is here = here ∙ ap (λ (o : Option Form). portions_by o workers cat p) is
+
+-- portions where the workers get enough samples, and where they don't
+pub portions_pay : (count workers : ℕ) (cat : List Dataset) (d : Dataset) (p : Planned) (r : Option Portions) → count ≡ workers → pays count p ≡ true → r ≡ portions_by (form_of cat d p) count cat p → r ≡ portions_of workers cat d p
+portions_pay count workers cat d p r same enough is =
+    is ∙ sym (ap (λ (t : Bool). if t then portions_by (form_of cat d p) count cat p else None) enough)
+    ∙ ap (λ n. portions_of n cat d p) same
+
+pub portions_cost : (count workers : ℕ) (cat : List Dataset) (d : Dataset) (p : Planned) → count ≡ workers → pays count p ≡ false → None ≡ portions_of workers cat d p
+portions_cost count workers cat d p same few =
+    sym (ap (λ (t : Bool). if t then portions_by (form_of cat d p) count cat p else None) few)
+    ∙ ap (λ n. portions_of n cat d p) same
 
 -- a form of columns, and one of lines
 columns_taken : (cells copied : Bool) (form : Form) → form_of_columns cells copied ≡ Some form → (makes_columns form ≡ true) × (reads_pieces form ≡ true → copied ≡ true)

@@ -71,11 +71,14 @@ abbrev pub form_of_lines : Kind → Bool → Bool → Option Form
 form_of_lines kind cells copied =
     if is_cell kind then (if copied then Some Pieces else None) else (if cells then None else Some Lines)
 
--- the form of a plan's output
+-- the form of a driver's output
+abbrev pub form_by : Driver → Kind → Bool → Bool → Option Form
+form_by driver kind cells copied =
+    if has_columns driver then form_of_columns cells copied else form_of_lines kind cells copied
+
+-- the form of the output of a dataset's plan
 abbrev pub form_of : List Dataset → Dataset → Planned → Option Form
-form_of cat d p = if has_columns p.driver
-    then form_of_columns (has_blocks Columns cat) (is_copied p d.head.size)
-    else form_of_lines d.head.kind (has_blocks Columns cat) (is_copied p d.head.size)
+form_of cat d p = form_by p.driver d.head.kind (has_blocks Columns cat) (is_copied p d.head.size)
 
 -- each of so many workers gets enough samples of the output
 abbrev pub pays : ℕ → Planned → Bool

@@ -107,9 +107,9 @@ pub fn has_blocks(cat: &Catalog, shape: BlockShape) -> bool
     false
 }
 
-/// Whether strips are as tall as they can be: the walk met a DTED cell, or the output is one, whose columns would be
-/// read or written again for every strip.
-pub fn is_tall(translation: &Translation) -> bool
+// Whether strips are as tall as they can be: the walk met a DTED cell, or the output is one, whose columns would be
+// read or written again for every strip.
+fn is_tall(translation: &Translation) -> bool
     ensures tall { result ≡ is_tall translation.now.cat translation.now.plan.driver }
 {
     let plan = &translation.plan;

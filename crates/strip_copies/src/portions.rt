@@ -3,12 +3,13 @@ ghost use Rattle.std.specs.Prelude.{◌≡◌, ◌≤◌, ◌*◌, IfSome, Some,
 ghost use Rattle.std.specs.Int.{div_ceil};
 ghost use Rattle.catalog.specs.Drivers.{Dataset};
 ghost use Rattle.strip_copies.specs.Copies.{IsTranslation};
-ghost use Rattle.strip_copies.specs.Portions.{extent_of, form_of, form_of_columns, form_of_lines, has_columns, most_of};
-ghost use Rattle.strip_copies.specs.Portions.{most_packed, pays, portions_by, portions_in, portions_of, rows_of};
-ghost use Rattle.strip_copies.specs.Portions.{samples_in, share_of_each, step_of, TakesForm};
+ghost use Rattle.strip_copies.specs.Portions.{extent_of, form_by, form_of, form_of_columns, form_of_lines, has_columns};
+ghost use Rattle.strip_copies.specs.Portions.{most_of, most_packed, pays, portions_by, portions_in, portions_of};
+ghost use Rattle.strip_copies.specs.Portions.{rows_of, samples_in, share_of_each, step_of, TakesForm};
 
 use crate::height::{BlockShape, has_blocks, is_cell, lines_alone, lines_near};
 use crate::pieces::is_copied;
+use crate::reading::source_size;
 use crate::translation::Translation;
 use catalog::Kind;
 use lane_teams::WorkerCount;
@@ -80,6 +81,26 @@ fn form_of_lines(kind: Kind, cells: bool, copied: bool) -> Option<Form>
     if cells { None } else { Some(Form::Lines) }
 }
 
+// The form of a driver's output.
+fn form_by(driver: Driver, kind: Kind, cells: bool, copied: bool) -> Option<Form>
+    ensures form { result ≡ form_by driver kind cells copied }
+{
+    if has_columns(driver) {
+        form_of_columns(cells, copied)
+    } else {
+        form_of_lines(kind, cells, copied)
+    }
+}
+
+// The kind of the dataset.
+fn kind_of(translation: &Translation) -> Kind
+    requires translation { IsTranslation translation.now.cat translation.now.id translation.now.plan }
+    ensures kind { (d : Dataset) → slice_get translation.now.cat translation.now.id ≡ Some d → result ≡ d.head.kind }
+{
+    let head = translation.cat.head(translation.id);
+    head.kind
+}
+
 // The form of a translation's output.
 fn form_of(translation: &Translation) -> Option<Form>
     requires translation { IsTranslation translation.now.cat translation.now.id translation.now.plan }
@@ -87,14 +108,11 @@ fn form_of(translation: &Translation) -> Option<Form>
         result ≡ form_of translation.now.cat d translation.now.plan }
 {
     let plan = &translation.plan;
-    let head = translation.cat.head(translation.id);
+    let kind = kind_of(translation);
+    let size = source_size(translation);
     let cells = has_blocks(&translation.cat, BlockShape::Columns);
-    let copied = is_copied(plan, head.size);
-    if has_columns(plan.driver) {
-        form_of_columns(cells, copied)
-    } else {
-        form_of_lines(head.kind, cells, copied)
-    }
+    let copied = is_copied(plan, size);
+    form_by(plan.driver, kind, cells, copied)
 }
 
 // The samples of a line of all bands.

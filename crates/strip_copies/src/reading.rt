@@ -130,8 +130,8 @@ pub struct Lines {
     pub end: u32,
 }
 
-// The columns and lines of the dataset.
-fn source_size(translation: &Translation) -> Size
+/// The columns and lines of the dataset.
+pub fn source_size(translation: &Translation) -> Size
     requires translation { IsTranslation translation.now.cat translation.now.id translation.now.plan }
     ensures size { (d : Dataset) → slice_get translation.now.cat translation.now.id ≡ Some d → result ≡ d.head.size }
     ensures limits { IsRaster result }
