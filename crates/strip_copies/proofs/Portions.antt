@@ -49,7 +49,8 @@ ceil_few h k parts =
 pub ceil_covers : (h k : ℕ) → 1 ≤ k → h ≤ (h / k + min 1 (h % k)) * k
 ceil_covers h k some =
     let whole : h / k * k + h % k ≡ h = div-add-mod' h k in
-    let rest : h % k < k = mod-lt h some in
+    let positive : 0 < k = omega arith in
+    let rest : h % k < k = mod-lt h positive in
     elim (cases_lt 0 (h % k)) [
       | inl more ↦
           let times : (h / k + 1) * k ≤ (h / k + min 1 (h % k)) * k = mul-le-mul_right k (omega arith) in

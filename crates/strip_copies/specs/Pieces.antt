@@ -11,12 +11,14 @@ use Rattle.strip_copies.specs.declared.pieces.Piece.{Piece}
 abbrev pub lies_on : ℕ → ℤ → ℕ → Bool
 lies_on side offset count = int_le (pos 0) offset && int_le (offset +ℤ pos count) (pos side)
 
--- nothing is scaled, and all that a plan shows of a source of this size lies in its raster: each sample is that of one
--- pixel
+-- an output of the window's size shows it as it is, and all of it lies in the raster of a source of this size
+abbrev pub copies : Size → Size → ℤ → ℤ → Size → Bool
+copies window size x y source =
+    (nat_eq window.w size.w && nat_eq window.h size.h) && (lies_on source.w x size.w && lies_on source.h y size.h)
+
+-- so does a plan: each sample is that of one pixel
 abbrev pub is_copied : Planned → Size → Bool
-is_copied p source =
-    (nat_eq p.window.w p.size.w && nat_eq p.window.h p.size.h) &&
-    (lies_on source.w p.x p.size.w && lies_on source.h p.y p.size.h)
+is_copied p source = copies p.window p.size p.x p.y source
 
 -- so does the plan of the dataset of this number
 abbrev pub IsCopied : List Dataset → ℕ → Planned → Type 0

@@ -17,7 +17,7 @@ ghost use Rattle.lane_teams.specs.Turns.{OnlyReadByViews};
 ghost use Rattle.translate_plan.specs.Plan.{out_pixel};
 ghost use Rattle.translate_plan.specs.declared.band.OutBand.{OutBand};
 ghost use Rattle.strip_copies.specs.Copies.{IsTranslation};
-ghost use Rattle.strip_copies.specs.Pieces.{is_copied, lies_on, piece_rect, source_rect, IsCopied, IsPiece};
+ghost use Rattle.strip_copies.specs.Pieces.{copies, is_copied, lies_on, piece_rect, source_rect, IsCopied, IsPiece};
 ghost use Rattle.strip_copies.specs.Rows.{IsHeldIn};
 
 use crate::direct::hold_all;
@@ -62,16 +62,25 @@ fn lies_on(side: u32, offset: i64, count: u32) -> bool
     offset >= 0 && end_behind(offset, count) <= side as i64
 }
 
+// Whether an output of the window's size shows it as it is, and all of it lies in the raster of a source of this size.
+fn copies(window: Size, size: Size, x: i64, y: i64, source: Size) -> bool
+    requires x { unsigned_abs x ≤ farthest }
+    requires y { unsigned_abs y ≤ farthest }
+    ensures copies { result ≡ copies window size x y source }
+{
+    window.w == size.w
+        && window.h == size.h
+        && lies_on(source.w, x, size.w)
+        && lies_on(source.h, y, size.h)
+}
+
 /// Whether each sample of a plan is that of one pixel of a source of this size: nothing is scaled, and all that is
 /// shown lies in the raster.
 pub fn is_copied(plan: &Plan, source: Size) -> bool
     ensures copied { result ≡ is_copied plan.now source }
 {
     plan.rules();
-    plan.window.w == plan.size.w
-        && plan.window.h == plan.size.h
-        && lies_on(source.w, plan.x, plan.size.w)
-        && lies_on(source.h, plan.y, plan.size.h)
+    copies(plan.window, plan.size, plan.x, plan.y, source)
 }
 
 // The column, or the line, that stands so many behind an offset to the right, or down.
