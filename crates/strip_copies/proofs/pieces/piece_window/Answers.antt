@@ -2,7 +2,7 @@ use Rattle.std.proofs.Common.{◌≡◌, ◌∙◌, ◌+◌, ◌-◌, ◌≤◌,
 use Rattle.std.specs.Prelude.{unsigned_abs}
 use Rattle.catalog.specs.Dataset.{band_count}
 use Rattle.translate_plan.specs.Plan.{Planned}
-use Rattle.strip_copies.proofs.Pieces.{piece_across, piece_down, placed, source_known}
+use Rattle.strip_copies.proofs.Copied.{piece_across, piece_down, placed, source_known}
 use Rattle.strip_copies.proofs.pieces.piece_window.Goals as goal
 
 pub returns-clause-window : goal.returns-clause-window

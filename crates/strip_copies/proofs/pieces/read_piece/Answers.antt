@@ -3,7 +3,7 @@ use Rattle.std.specs.Prelude.{slice_get}
 use Rattle.geotransform.specs.declared.types.Rect.{Rect}
 use Rattle.catalog.specs.Pixels.{pixel_of_name}
 use Rattle.catalog.specs.Places.{row_by_row}
-use Rattle.strip_copies.proofs.Pieces.{piece_held, piece_samples, piece_told}
+use Rattle.strip_copies.proofs.Copied.{piece_held, piece_samples, piece_told}
 use Rattle.strip_copies.proofs.pieces.read_piece.Goals as goal
 
 pub read_window_with-requires-clause-told : goal.read_window_with-requires-clause-told

@@ -1,6 +1,6 @@
 use Rattle.std.proofs.Common.{◌≡◌, ◌≤◌, ◌*◌, ap, arith, length}
 use Rattle.translate_plan.specs.Plan.{Planned}
-use Rattle.strip_copies.proofs.Portions.{line_few, line_some}
+use Rattle.strip_copies.proofs.Shared.{line_few, line_some}
 use Rattle.strip_copies.proofs.portions.line_of.Goals as goal
 
 pub returns-clause-some : goal.returns-clause-some

@@ -1,7 +1,7 @@
 use Rattle.std.proofs.Common.{◌≡◌, Option, ap, sym}
 use Rattle.strip_copies.specs.declared.portions.Form.{Form}
 use Rattle.strip_copies.specs.Portions.{form_of, portions_by}
-use Rattle.strip_copies.proofs.Portions.{form_taken, portions_shared}
+use Rattle.strip_copies.proofs.Shared.{form_taken, portions_shared}
 use Rattle.strip_copies.proofs.portions.portions_by.Goals as goal
 
 pub portions_in-requires-clause-takes : goal.portions_in-requires-clause-takes

@@ -1,7 +1,7 @@
 use Rattle.std.proofs.Common.{◌≡◌, ◌∙◌, ◌≤◌, ◌*◌, sym, subst}
 use Rattle.std.specs.Prelude.{IfSome}
 use Rattle.strip_copies.specs.Portions.{samples_in}
-use Rattle.strip_copies.proofs.Portions.{portions_cost, portions_pay}
+use Rattle.strip_copies.proofs.Shared.{portions_cost, portions_pay}
 use Rattle.strip_copies.proofs.portions.portions_of.Goals as goal
 
 pub returns-then-pays-clause-portions : goal.returns-then-pays-clause-portions

@@ -1,7 +1,7 @@
 use Rattle.std.proofs.Common.{◌≡◌, ◌≤◌, ◌*◌, ◌∙◌, ap, arith}
 use Rattle.std.specs.Int.{div_ceil}
 use Rattle.std.proofs.Math.Nat.{mul-le-mul}
-use Rattle.strip_copies.proofs.Portions.{ceil_least, ceil_some, each_of_all}
+use Rattle.strip_copies.proofs.Shared.{ceil_least, ceil_some, each_of_all}
 use Rattle.strip_copies.proofs.portions.rows_of.Goals as goal
 
 pub overflow_cast-result : goal.overflow_cast-result

@@ -1,6 +1,6 @@
 use Rattle.std.proofs.Common.{◌≡◌, ◌≤◌, ◌*◌, ap, arith}
 use Rattle.translate_plan.specs.Plan.{Planned}
-use Rattle.strip_copies.proofs.Portions.{all_few}
+use Rattle.strip_copies.proofs.Shared.{all_few}
 use Rattle.strip_copies.proofs.portions.samples_of.Goals as goal
 
 pub overflow_mul-result : goal.overflow_mul-result

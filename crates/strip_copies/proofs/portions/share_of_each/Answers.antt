@@ -1,5 +1,5 @@
 use Rattle.std.proofs.Common.{◌≡◌, ◌≤◌, ◌*◌, ◌/◌, subst, arith}
-use Rattle.strip_copies.proofs.Portions.{share_few, shares_fit}
+use Rattle.strip_copies.proofs.Shared.{share_few, shares_fit}
 use Rattle.strip_copies.proofs.portions.share_of_each.Goals as goal
 
 pub overflow_cast-result : goal.overflow_cast-result
