@@ -1,10 +1,11 @@
 pub mod Cells
+mod Copied
 mod Examples
 pub mod Grown
 pub mod Holdings
 pub mod Joined
-mod Portions
 pub mod Samples
+mod Shared
 pub mod Sources
 pub mod Straight
 pub mod Strips

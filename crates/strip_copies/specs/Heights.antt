@@ -19,10 +19,6 @@ use Rattle.strip_copies.specs.declared.height.BlockShape.TheVariants.{Columns, S
 abbrev pub most_samples : ℕ
 most_samples = 4194304
 
--- The most samples of an output that each of several workers packs at a time.
-abbrev pub most_packed : ℕ
-most_packed = 16777216
-
 -- datasets whose blocks are whole columns are cells, those whose blocks are squares are mosaics, and those of digits
 -- are grids
 abbrev pub is_cell : Kind → Bool

@@ -52,8 +52,8 @@ pub fn strip_lines(most: u32, width: u32) -> u32
     lines.min(most)
 }
 
-// Whether datasets of a kind are cells.
-fn is_cell(kind: Kind) -> bool
+/// Whether datasets of a kind are cells.
+pub fn is_cell(kind: Kind) -> bool
     ensures cell { result ≡ is_cell kind }
 {
     match kind {
@@ -95,8 +95,8 @@ fn is_cut_at(cat: &Catalog, id: u32, shape: BlockShape) -> bool
     }
 }
 
-// Whether some dataset of the catalog is.
-fn has_blocks(cat: &Catalog, shape: BlockShape) -> bool
+/// Whether some dataset of the catalog is cut into such blocks.
+pub fn has_blocks(cat: &Catalog, shape: BlockShape) -> bool
     ensures blocks { result ≡ has_blocks shape cat.now }
 {
     for id in 0..cat.count() {
@@ -107,9 +107,9 @@ fn has_blocks(cat: &Catalog, shape: BlockShape) -> bool
     false
 }
 
-/// Whether strips are as tall as they can be: the walk met a DTED cell, or the output is one, whose columns would be
-/// read or written again for every strip.
-pub fn is_tall(translation: &Translation) -> bool
+// Whether strips are as tall as they can be: the walk met a DTED cell, or the output is one, whose columns would be
+// read or written again for every strip.
+fn is_tall(translation: &Translation) -> bool
     ensures tall { result ≡ is_tall translation.now.cat translation.now.plan.driver }
 {
     let plan = &translation.plan;
@@ -171,9 +171,9 @@ fn is_shared(translation: &Translation, workers: WorkerCount) -> bool
     count > 1 && share >= fewest_read(cat)
 }
 
-// The lines of so many columns whose samples stay in a processor's cache: 65,536 samples, which are 1 MiB; at least one
-// line, and at most so many.
-fn lines_near(most: u32, width: u32) -> u32
+/// The lines of so many columns whose samples stay in a processor's cache: 65,536 samples, which are 1 MiB; at least
+/// one line, and at most so many.
+pub fn lines_near(most: u32, width: u32) -> u32
     requires some { 0 < width }
     requires lines { 1 ≤ most }
     ensures lines { result ≡ lines_near most width }
