@@ -64,6 +64,16 @@ module _ (told : Option Files) (cat : List Dataset) (id : ℕ) (p : Planned) (ba
   pub row_pixel_at : (r : ℕ) → r < rect.h → (m : Files) (d : Dataset) → told ≡ Some m → slice_get cat id ≡ Some d → (k : ℕ) → k < rect.w → get_or (take rect.w (drop (r * rect.w) samples)) k (pos 0) ≡ raster_of m d p band (rect.x + k) (rect.y + r)
   row_pixel_at r below m d e f k less = row_at samples rect.w rect.h r read.long below k less ∙ pixel_at m d e f k r less below
 
+-- what holds of the first samples of a list, and of those that were put behind them
+written_by : (P : ℕ → ℤ → Type 0) (at : ℕ) (xs old : List ℤ) → at + length xs ≤ length old → ((u : ℕ) → u < at → P u (get_or old u (pos 0))) → ((k : ℕ) → k < length xs → P (at + k) (get_or xs k (pos 0))) → (u : ℕ) → u < at + length xs → P u (get_or (written at xs old) u (pos 0))
+written_by P at xs old fits low high u less = elim (cases_lt u at) [
+  | inl a ↦ subst (P u) (sym (written_below at xs old u fits a)) (low u a)
+  | inr b ↦ (
+      let there : at + (u - at) ≡ u = omega arith in
+      subst (P u) (sym (written_here at xs old u fits b less)) (subst (λ n. P n (get_or xs (u - at) (pos 0))) there (high (u - at) (omega arith)))
+      )
+]
+
 module _ (told : Option Files) (cat : List Dataset) (id : ℕ) (p : Planned) (columns : Bool) (band block : ℕ) where
   -- nothing is asked of no samples
   pub front_none : (samples : List ℤ) → HoldsFront told cat id p columns band block 0 samples
@@ -75,17 +85,8 @@ module _ (told : Option Files) (cat : List Dataset) (id : ℕ) (p : Planned) (co
       → ((m : Files) (d : Dataset) → told ≡ Some m → slice_get cat id ≡ Some d → (k : ℕ) → k < length xs → get_or xs k (pos 0) ≡ spot_pixel columns (raster_of m d p band) block (at + k))
       → HoldsFront told cat id p columns band block (at + length xs) new
   front_more at xs old new is fits before held pixels = record {
-    held = λ u less. subst (λ l. IsHeldIn p band (get_or l u (pos 0))) (sym is) (elim (cases_lt u at) [
-      | inl low ↦ subst (IsHeldIn p band) (sym (written_below at xs old u fits low)) (before.held u low)
-      | inr high ↦ subst (IsHeldIn p band) (sym (written_here at xs old u fits high less)) (held (u - at) (omega arith))
-    ]);
-    pixels = λ m d e f u less. ap (λ l. get_or l u (pos 0)) is ∙ (elim (cases_lt u at) [
-      | inl low ↦ written_below at xs old u fits low ∙ before.pixels m d e f u low
-      | inr high ↦ (
-          let there : at + (u - at) ≡ u = omega arith in
-          written_here at xs old u fits high less ∙ pixels m d e f (u - at) (omega arith) ∙ ap (spot_pixel columns (raster_of m d p band) block) there
-          )
-    ]);
+    held = λ u less. subst (λ (l : List ℤ). IsHeldIn p band (get_or l u (pos 0))) (sym is) (written_by (λ u v. IsHeldIn p band v) at xs old fits before.held held u less);
+    pixels = λ m d e f u less. ap (λ l. get_or l u (pos 0)) is ∙ written_by (λ u v. v ≡ spot_pixel columns (raster_of m d p band) block u) at xs old fits (before.pixels m d e f) (pixels m d e f) u less;
   }
 
 -- one sample more of a column was taken

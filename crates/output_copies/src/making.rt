@@ -3,7 +3,6 @@ ghost use Rattle.std.specs.Prelude.{◌≡◌, ◌≢◌, ◌<◌, ◌≤◌, �
 ghost use Rattle.std.specs.List.{All};
 ghost use Rattle.std.specs.Thread.{IsSend, IsSync};
 ghost use Rattle.lane_teams.specs.Ready.{AreLanesReady};
-ghost use Rattle.strip_copies.specs.declared.portions.Form.TheVariants.{Lines};
 ghost use Rattle.strip_copies.specs.Copies.{IsRoomFor};
 ghost use Rattle.lane_teams.specs.Workers.{most_workers};
 ghost use Rattle.write_back.specs.Forms.{cut_of};
@@ -152,7 +151,7 @@ fn make_lines<R: Threads + Sync, F: Folder, L: Ledger, S: Scene>(
 ) -> Result<(), Fault>
     requires task { IsTask task.now.translation.now.cat task.now.translation.now.id task.now.translation.now.plan
         task.now.packing task.now.form task.now.rows task.now.step }
-    requires lines { task.now.form ≡ Lines }
+    requires lines { task.now.form ≡ Form.Lines }
     requires ready { AreLanesReady F.Folder S.told S.cat desk.old.view task.now.translation.now.cat
         reader.old.team.lanes.items }
     requires room { IsRoomFor task.now.translation.now.cat task.now.translation.now.id task.now.translation.now.plan
@@ -201,7 +200,7 @@ fn make_bands<R: Threads + Sync, F: Folder, L: Ledger, S: Scene>(
 ) -> Result<(), Fault>
     requires task { IsTask task.now.translation.now.cat task.now.translation.now.id task.now.translation.now.plan
         task.now.packing task.now.form task.now.rows task.now.step }
-    requires lines { task.now.form ≡ Lines }
+    requires lines { task.now.form ≡ Form.Lines }
     requires ready { AreLanesReady F.Folder S.told S.cat desk.old.view task.now.translation.now.cat
         reader.old.team.lanes.items }
     requires room { IsRoomFor task.now.translation.now.cat task.now.translation.now.id task.now.translation.now.plan
@@ -252,7 +251,7 @@ fn make_portion<R: Threads + Sync, F: Folder, L: Ledger, S: Scene>(
 ) -> Result<(), Fault>
     requires task { IsTask task.now.translation.now.cat task.now.translation.now.id task.now.translation.now.plan
         task.now.packing task.now.form task.now.rows task.now.step }
-    requires lines { task.now.form ≡ Lines }
+    requires lines { task.now.form ≡ Form.Lines }
     requires ready { AreLanesReady F.Folder S.told S.cat desk.old.view task.now.translation.now.cat
         reader.old.team.lanes.items }
     requires room { IsRoomFor task.now.translation.now.cat task.now.translation.now.id task.now.translation.now.plan

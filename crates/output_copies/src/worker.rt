@@ -4,7 +4,7 @@ ghost use Rattle.std.specs.List.{All};
 ghost use Rattle.outside.specs.Causes.{Rose};
 ghost use Rattle.outside.specs.Reading.{WhereTold};
 ghost use Rattle.catalog.specs.Walk.{IsWalked};
-ghost use Rattle.band_blocks.specs.Blocks.{most_blocks, written};
+ghost use Rattle.band_blocks.specs.Blocks.{most_blocks, written, BlockView};
 ghost use Rattle.lane_teams.specs.Ready.{AreLanesFresh};
 ghost use Rattle.strip_copies.specs.Copies.{IsRoomFor, IsTranslation};
 ghost use Rattle.write_back.specs.Forms.{cut_of, AreHeld};
@@ -158,8 +158,8 @@ fn block_room(
     len: u32,
 ) -> Result<Vec<Block>, AllocError>
     ensures count { IfOk result (λ blocks. length blocks.items ≡ count) }
-    ensures each { IfOk result (λ blocks. All (λ block. (block.kind ≡ kind) × (length block.samples ≡ len))
-        blocks.items) }
+    ensures each { IfOk result (λ blocks. All (λ (block : BlockView). (block.kind ≡ kind) ×
+        (length block.samples ≡ len)) blocks.items) }
 {
     let mut blocks = Vec::new(alloc);
     for _at in 0..count {

@@ -1,4 +1,4 @@
-use Rattle.std.proofs.Common.{◌≡◌, ◌∙◌, ◌+◌, ap, arith, refl, sym, subst, length, get_or, ℕ, Err, Option}
+use Rattle.std.proofs.Common.{◌≡◌, ◌∙◌, ◌+◌, ap, arith, refl, sym, subst, length, ℕ, Err, Option}
 use Rattle.std.specs.Prelude.{slice_set}
 use Rattle.outside.specs.Outside.{Files}
 use Rattle.write_back.specs.Forms.{cut_of}
@@ -6,7 +6,7 @@ use Rattle.output_copies.specs.Copying.{MayEnd, TellsChange}
 use Rattle.output_copies.specs.Packed.{top_of, AreBlocksWritten}
 use Rattle.output_copies.proofs.Changes.{handed_on}
 use Rattle.output_copies.proofs.Ends.{ends_later, ends_ok, ends_so, err_is}
-use Rattle.output_copies.proofs.Hands.{top_first, written_more, written_ready}
+use Rattle.output_copies.proofs.Hands.{answer_kept, done_kept, top_first, written_more, written_ready}
 use Rattle.output_copies.proofs.packed.write_all.Goals as goal
 
 pub loop-at-init : goal.loop-at-init
@@ -34,13 +34,13 @@ write_made-requires-clause-end g c κs within = omega (arith, c.portion_of-porti
 
 pub write_made-requires-clause-done : goal.write_made-requires-clause-done
 write_made-requires-clause-done g c κs within =
+    let t = c.args.task.now.translation.now in
     let w = c.args.task.now.packing in
     let rows = c.args.task.now.rows in
-    let so_far = c.loop-at.invariant in
     let same = c.extent_of-extent.ensures.extent in
     let top = top_is c.extent_of-extent.result (cut_of w).blocks rows c.args.first c.loop-at.at c.portion_of-portion.result.top c.portion_of-portion.ensures.top same in
     let end = top_is c.extent_of-extent.result (cut_of w).blocks rows c.args.first (c.loop-at.at + 1) c.portion_of-portion.result.end c.portion_of-portion.ensures.end same in
-    rw (top, end, so_far.written.rest c.loop-at.at _ (omega arith)) (c.requires.done c.loop-at.at _ (omega (arith, so_far.written.count, c.loop-at-test.true)))
+    done_kept g.F.Folder g.S.Scene.told g.S.Scene.cat t.cat t.id t.plan w c.args.task.now.form rows c.args.task.now.step c.args.first c.loop-at.at c.portion_of-portion.result.top c.portion_of-portion.result.end c.args.workers.now c.loop-at.workers c.requires.done c.loop-at.invariant.written (omega (arith, c.loop-at.invariant.written.count, c.loop-at-test.true)) top end _
 
 pub write_made-requires-clause-written : goal.write_made-requires-clause-written
 write_made-requires-clause-written g c κs within =
@@ -51,16 +51,17 @@ write_made-requires-clause-written g c κs within =
     subst (λ (o : Option Files). AreBlocksWritten o t.cat t.id t.plan w (cut_of w).by_columns c.loop-at.target c.portion_of-portion.result.top) (sym so_far.names)
     (subst (λ (n : ℕ). AreBlocksWritten (g.F.Folder.names c.args.folder.now) t.cat t.id t.plan w (cut_of w).by_columns c.loop-at.target n) (sym top) so_far.blocks)
 
--- the worker's answer is what it was, and may end the translation since a count before
 pub returns-in_err-write_made-clause-ends : goal.returns-in_err-write_made-clause-ends
 returns-in_err-write_made-clause-ends g c = λ before early answers.
+    let t = c.args.task.now.translation.now in
     let so_far = c.loop-at.invariant in
     let told = g.F.Folder.names c.args.folder.now in
     let x = c.in_err-write_made.field-0.0 in
-    let answer = ends_later g.S.Scene.told before (g.F.Folder.faults c.args.folder.now) (g.F.Folder.faults c.loop-at.folder) 0 0 (get_or c.args.workers.now c.loop-at.at _).answer so_far.later (answers c.loop-at.at _ (omega (arith, so_far.written.count, c.loop-at-test.true))) in
     ends_so told before (g.F.Folder.faults c.write_made.new.folder) 0 0 x c.from_residual.result (err_is c.from_residual.result x c.from_residual.ensures)
     (subst (λ (o : Option Files). MayEnd o before (g.F.Folder.faults c.write_made.new.folder) 0 0 (Err x)) so_far.names
-    (c.in_err-write_made.ensures.ends before (rw (so_far.written.rest c.loop-at.at _ (omega arith)) answer)))
+    (c.in_err-write_made.ensures.ends before
+    (ends_later g.S.Scene.told before (g.F.Folder.faults c.args.folder.now) (g.F.Folder.faults c.loop-at.folder) 0 0 _ so_far.later
+    (answer_kept g.F.Folder g.S.Scene.told g.S.Scene.cat t.cat t.id t.plan c.args.task.now.packing c.args.task.now.form c.args.task.now.rows c.args.task.now.step before (g.F.Folder.faults c.args.folder.now) c.loop-at.at c.args.workers.now c.loop-at.workers answers so_far.written (omega (arith, so_far.written.count, c.loop-at-test.true)) _))))
 
 pub returns-clause-ends : goal.returns-clause-ends
 returns-clause-ends g c = λ before early answers. ends_ok tt (g.F.Folder.names c.args.folder.now) before (g.F.Folder.faults c.loop-at.folder) 0 0 (omega (arith, early, c.loop-at.invariant.later)) (omega arith)

@@ -22,8 +22,8 @@ loop-at-preserved g c =
     let so_far = c.loop-at.invariant in
     let o = c.in_ok-renew_one.ensures in
     record {
-      done = all_renewed g.F.Folder g.S.Scene.told g.S.Scene.cat t.cat t.id t.plan c.args.task.now.packing c.args.task.now.form c.args.task.now.rows c.args.task.now.step c.args.first c.loop-at.at c.loop-at.workers c.renew_one.new.worker c.loop-at-test.true so_far.done o.worker o.packed o.answer;
-      answers = answers_more g.F.Folder g.S.Scene.told c.loop-at.at (g.F.Folder.faults c.args.folder.now) (g.F.Folder.faults c.loop-at.folder) (g.F.Folder.faults c.renew_one.new.folder) c.args.workers.now c.loop-at.workers c.renew_one.new.worker c.loop-at-test.true so_far.later o.later o.answer o.rose c.requires.views so_far.answers;
+      done = all_renewed g.F.Folder g.S.Scene.told g.S.Scene.cat t.cat t.id t.plan c.args.task.now.packing c.args.task.now.form c.args.task.now.rows c.args.task.now.step c.args.first c.loop-at.at c.loop-at.workers c.renew_one.new.worker _ c.loop-at-test.true so_far.done o.worker o.packed o.answer;
+      answers = answers_more g.F.Folder g.S.Scene.told c.loop-at.at (g.F.Folder.faults c.args.folder.now) (g.F.Folder.faults c.loop-at.folder) (g.F.Folder.faults c.renew_one.new.folder) c.args.workers.now c.loop-at.workers c.renew_one.new.worker _ c.loop-at-test.true so_far.later o.later o.answer o.rose c.requires.views so_far.answers;
       names = o.names ∙ so_far.names;
       later = omega (arith, so_far.later, o.later);
     }
@@ -32,7 +32,7 @@ pub returns-in_err-renew_one-clause-done : goal.returns-in_err-renew_one-clause-
 returns-in_err-renew_one-clause-done g c =
     let t = c.args.task.now.translation.now in
     let o = c.in_err-renew_one.ensures in
-    all_renewed g.F.Folder g.S.Scene.told g.S.Scene.cat t.cat t.id t.plan c.args.task.now.packing c.args.task.now.form c.args.task.now.rows c.args.task.now.step c.args.first c.loop-at.at c.loop-at.workers c.renew_one.new.worker c.loop-at-test.true c.loop-at.invariant.done o.worker o.packed o.answer
+    all_renewed g.F.Folder g.S.Scene.told g.S.Scene.cat t.cat t.id t.plan c.args.task.now.packing c.args.task.now.form c.args.task.now.rows c.args.task.now.step c.args.first c.loop-at.at c.loop-at.workers c.renew_one.new.worker _ c.loop-at-test.true c.loop-at.invariant.done o.worker o.packed o.answer
 
 pub returns-clause-answers : goal.returns-clause-answers
 returns-clause-answers g c = λ i d less.
