@@ -181,6 +181,57 @@ fn some_workers_over_a_cell(rt: HostRuntime) {
     assert!(rt; are_tiles_again(&rt, rt.alloc()));
 }
 
+// A tile of the next level, which some workers copy to a cell, each of them columns of its own, and the cell to a tile,
+// each of them lines of its own.
+const LARGE_TIMES: usize = 101_306;
+
+const LARGE_REST: usize = 66;
+
+static LARGE_CELLS: [Row<'static>; 4] = [
+    (
+        "gdal_translate -q --workers 1 N40E010.hgt one.dt2",
+        0,
+        "",
+        "",
+    ),
+    (
+        "gdal_translate -q --workers 3 N40E010.hgt three.dt2",
+        0,
+        "",
+        "",
+    ),
+    (
+        "gdal_translate -q --workers 3 one.dt2 one/N40E010.hgt",
+        0,
+        "",
+        "",
+    ),
+    (
+        "gdal_translate -q --workers 2 three.dt2 three/N40E010.hgt",
+        0,
+        "",
+        "",
+    ),
+];
+
+// Whether each number of workers gives the large tile again.
+fn are_large_tiles_again<R: Threads + Sync + Abort>(rt: &R, alloc: Global) -> bool {
+    let bytes = joined(
+        rt,
+        alloc,
+        &[(samples(), LARGE_TIMES), (b"\x01", LARGE_REST)],
+    );
+    let bytes = bytes.as_slice();
+    let tiles: [FileOf<'_>; 2] = [("one/N40E010.hgt", bytes), ("three/N40E010.hgt", bytes)];
+    let mut folder = folder_of(rt, alloc, &[("N40E010.hgt", bytes)], &[]);
+    says_all(rt, alloc, &mut folder, &LARGE_CELLS) && has_all(rt, alloc, &folder, &tiles)
+}
+
+#[test]
+fn some_workers_over_columns(rt: HostRuntime) {
+    assert!(rt; are_large_tiles_again(&rt, rt.alloc()));
+}
+
 // Lines that two workers make beside each other: thirty-three are made by the one, thirty-two by the other.
 const LONG: &[u8] = b"NROWS 65\nNCOLS 32768\n";
 
