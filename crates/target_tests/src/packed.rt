@@ -1,6 +1,6 @@
 // Whole blocks that are put past the pool by their bytes: lines, lines over whose bytes samples were packed, and
-// columns of a cell. The files of the forms that have such blocks, the forms that have none, and calls of the folder
-// that fail.
+// columns of a cell. The files of the forms that have such blocks, the forms that have none, windows over a part of such
+// a block, and calls of the folder that fail.
 ghost use Rattle.std.specs.Prelude.{◌≡◌, ◌<◌, [], length, true};
 ghost use Rattle.write_back.specs.Files.{IsTarget};
 ghost use Rattle.write_back.specs.Forms.{cut_of, AreHeld};
@@ -9,13 +9,14 @@ ghost use Rattle.write_back.specs.View.{Blocks};
 
 use crate::cells::{CELL, has_each};
 use crate::fixtures::{
-    Asked, Ended, File, Form, Order, folder_of, has_all, is_named_for, none_wrong, ordered,
+    Asked, Ended, File, Form, Order, Window, folder_of, has_all, is_named_for, none_wrong, ordered,
+    put_window,
 };
 use crate::tiles::TILE;
 use band_blocks::Block;
 use esri_hdr::Layout;
 use geotransform::Sample;
-use outside::{Counter, Failing, Folder, MemFolder, Method};
+use outside::{Counter, Failing, Folder, MemFolder, Method, Name};
 use std::alloc::Global;
 use std::marker::Brand;
 use std::sync::ledger::{Blank, Ledger};
@@ -569,15 +570,20 @@ const PARTS: [Part; 4] = [
     (CELL, 121, &COLUMNS, 34_162, &COLUMN_BYTES),
 ];
 
+// Whether a folder has so many bytes under a name, and these parts among them.
+fn has_data(folder: &MemFolder, name: &Name, len: usize, parts: &[(usize, &[u8])]) -> bool {
+    match folder.bytes(name) {
+        Some(bytes) => bytes.len() == len && has_each(bytes, parts),
+        None => false,
+    }
+}
+
 // Whether an output of these blocks has these bytes.
 fn has_parts(alloc: Global, (asked, capacity, blocks, len, parts): &Part) -> Result<bool, Fail> {
     let order = ordered(alloc, asked)?;
     let mut folder: MemFolder = folder_of(alloc, &[], &[])?;
     let ended = written(alloc, &mut folder, &order, *capacity, *blocks);
-    Ok(match folder.bytes(&order.name) {
-        Some(bytes) => ended == Ended::Closed && bytes.len() == *len && has_each(bytes, *parts),
-        None => false,
-    })
+    Ok(ended == Ended::Closed && has_data(&folder, &order.name, *len, *parts))
 }
 
 // The first row whose file has others.
@@ -593,4 +599,159 @@ fn first_other(alloc: Global, rows: &[Part]) -> Result<Option<usize>, Fail> {
 #[test]
 fn lines_of_a_tile_and_columns_of_a_cell_stand_in_the_files(rt: HostRuntime) -> Result<(), Fail> {
     none_wrong(&rt, first_other(rt.alloc(), &PARTS))
+}
+
+// A window, and its samples.
+type Patch<'a> = (Window, &'a [Sample]);
+
+// Puts a block past the pool, and a window of it through the pool, and closes the target.
+fn patched<F: Folder, L: Ledger>(
+    alloc: Global,
+    folder: &mut F,
+    mut target: Target<F>,
+    packing: &Packing,
+    block: Put<'_>,
+    patch: Patch<'_>,
+    blank: Blank,
+) -> Ended
+    requires apart { IsApart packing.now }
+    requires target { IsTarget (F.names folder.old) target }
+    requires output { target.output ≡ Blocks packing.now }
+    requires empty { target.pool.entries ≡ [] }
+    requires name { blank.name ≡ L.name }
+    requires parts { blank.parts ≡ L.parts }
+    requires some { 0 < blank.parts }
+{
+    let mut writes: Counter<L> = Counter::open(blank);
+    let (window, samples) = patch;
+    let below = put_block(alloc, folder, &mut target, packing, block, &mut writes);
+    let above = put_window(alloc, &mut target, folder, &window, samples, &mut writes);
+    if below != Ok(true) || above != Ok(true) {
+        target.give_up(folder);
+        return Ended::NotAsked;
+    }
+    match target.close(folder, &mut writes) {
+        Ok(()) => Ended::Closed,
+        Err(CloseFault { published, cause }) => Ended::NotClosed(published, cause),
+    }
+}
+
+// Puts a block of an output past a pool of so many blocks, at least one, and a window of it through the pool.
+fn written_over<F: Folder>(
+    alloc: Global,
+    folder: &mut F,
+    order: &Order,
+    capacity: u16,
+    block: Put<'_>,
+    patch: Patch<'_>,
+) -> Ended {
+    let Some(packing) = Packing::of(&order.plan) else {
+        return Ended::NotAsked;
+    };
+    if capacity == 0 || !is_named_for(&order.plan, &order.name) {
+        return Ended::NotAsked;
+    }
+    match Target::create(alloc, folder, &order.plan, &order.name, capacity as u32) {
+        Ok(target) => patched::<F, Brand>(
+            alloc,
+            folder,
+            target,
+            &packing,
+            block,
+            patch,
+            Blank::new(1),
+        ),
+        Err(fault) => Ended::NotMade(fault),
+    }
+}
+
+// A form, the blocks of the pool, a block that isn't the first one, a window of a part of it, the bytes of the data, and
+// some of them by their places. The samples of the block that the window doesn't cover are read back from the draft.
+type Over = (
+    Asked,
+    u16,
+    Put<'static>,
+    Patch<'static>,
+    usize,
+    &'static [(usize, &'static [u8])],
+);
+
+// The last line of the last band.
+const LAST_LINE: Put<'static> = Put::Line((1, 1, &[9, 0, 10, 0, 11, 0]));
+
+const OVERS: [Over; 5] = [
+    (
+        PAIR,
+        1,
+        LAST_LINE,
+        ((1, (1, 1), (1, 1), 0), &[-2]),
+        24,
+        &[(16, &[0, 0, 9, 0, 254, 255, 11, 0])],
+    ),
+    (
+        PAIR_BSQ,
+        64,
+        LAST_LINE,
+        ((1, (0, 1), (2, 1), 0), &[258, -32_768]),
+        24,
+        &[(16, &[0, 0, 2, 1, 0, 128, 11, 0])],
+    ),
+    (
+        TILE,
+        1,
+        Put::Line((0, 1200, &TILE_LINE)),
+        ((0, (600, 1200), (1, 1), 0), &[258]),
+        2_884_802,
+        &[(2_882_398, &[0, 0, 7, 7]), (2_883_598, &[7, 7, 1, 2, 7, 7])],
+    ),
+    // 300 in the north, and 170 + 2 * 119 + 7 + 119 * 5 + 1 + 44
+    (
+        CELL,
+        1,
+        Put::Column((119, -1, 5, 7)),
+        ((0, (119, 0), (1, 1), 0), &[300]),
+        34_162,
+        &[
+            (33_654, &[170, 0, 0, 119, 0, 119, 0, 0, 0, 7, 0, 5, 0, 5]),
+            (33_900, &[0, 5, 1, 44, 0, 0, 4, 31]),
+        ],
+    ),
+    // 2 in the south, and 170 + 2 * 119 + 2 + 119 * 5 + 128 + 1
+    (
+        CELL,
+        121,
+        Put::Column((119, -1, 5, 7)),
+        ((0, (119, 120), (1, 1), 0), &[2]),
+        34_162,
+        &[
+            (33_654, &[170, 0, 0, 119, 0, 119, 0, 0, 0, 2, 0, 5, 0, 5]),
+            (33_900, &[0, 5, 128, 1, 0, 0, 4, 110]),
+        ],
+    ),
+];
+
+// Whether an output of such a block and window has these bytes.
+fn has_over(
+    alloc: Global,
+    (asked, capacity, block, patch, len, parts): &Over,
+) -> Result<bool, Fail> {
+    let order = ordered(alloc, asked)?;
+    let mut folder: MemFolder = folder_of(alloc, &[], &[])?;
+    let ended = written_over(alloc, &mut folder, &order, *capacity, *block, *patch);
+    Ok(ended == Ended::Closed && has_data(&folder, &order.name, *len, *parts))
+}
+
+// The first row whose file has others.
+fn first_unpatched(alloc: Global, rows: &[Over]) -> Result<Option<usize>, Fail> {
+    for at in 0..rows.len() {
+        if !has_over(alloc, &rows[at])? {
+            return Ok(Some(at));
+        }
+    }
+    Ok(None)
+}
+
+#[test]
+fn a_window_leaves_the_rest_of_a_block_that_was_put(rt: HostRuntime) -> Result<(), Fail> {
+    none_wrong(&rt, first_unpatched(rt.alloc(), &OVERS))
 }
