@@ -47,9 +47,9 @@ fn folder<R: Abort>(rt: &R, alloc: Global) -> MemFolder {
     folder_of(rt, alloc, &files, &[])
 }
 
-// A raster in which these bytes come so often that each of two workers makes half of its lines; where the output's lines
-// hold all bands pixel by pixel, each reads half of each of two strips, and the second strip is read while the first one
-// is written. And a mosaic of it.
+// A raster in which these bytes come so often that each of two workers makes half of its lines; of an output in which
+// bands lie pixel by pixel (BIP) each reads half of each of two strips, and the second strip is read while the first
+// one is written. And a mosaic of it.
 const TIMES: usize = 16_384;
 
 const WIDE: &[u8] = b"NROWS 128\nNCOLS 32768\n";

@@ -282,8 +282,8 @@ fn portions_by(translation: &Translation, workers: u32) -> Option<Portions>
 }
 
 /// How several workers share the output of a translation. None exactly where one worker is asked for, where less than
-/// 1,000,000 samples come to each, where a line or a column alone is more than each may pack at a time, over a mosaic of
-/// cells, and where a cell is read or written, and samples aren't copied or both are cells.
+/// 1,000,000 samples come to each, where a line or a column alone is more than each may pack at a time, over a mosaic
+/// of cells, and where a cell is read or written, and samples aren't copied or both are cells.
 ///
 /// All workers together make 8,388,608 samples of lines at most at a time, and 16,777,216 of what is copied from a cell
 /// or into one.
