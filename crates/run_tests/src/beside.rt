@@ -232,7 +232,9 @@ fn some_workers_over_columns(rt: HostRuntime) {
     assert!(rt; are_large_tiles_again(&rt, rt.alloc()));
 }
 
-// Lines that two workers make beside each other: thirty-three are made by the one, thirty-two by the other.
+// Lines of which one of two workers makes thirty-three, and the other thirty-two. Of an output in which bands lie pixel
+// by pixel (BIP) a strip of sixty-four has two million samples: two workers read it beside each other, and the last line
+// is read while those before it are written.
 const LONG: &[u8] = b"NROWS 65\nNCOLS 32768\n";
 
 const LONG_TIMES: usize = 8_320;
@@ -250,25 +252,44 @@ BANDGAPBYTES   0
 PIXELTYPE      UNSIGNEDINT
 ";
 
+const LONG_WOVEN: &[u8] = b"BYTEORDER      I
+LAYOUT         BIP
+NROWS          65
+NCOLS          32768
+NBANDS         1
+NBITS          8
+SKIPBYTES      0
+BANDROWBYTES   32768
+TOTALROWBYTES  32768
+BANDGAPBYTES   0
+PIXELTYPE      UNSIGNEDINT
+";
+
 // Each line is written, and a worker reads thirty-two or more of them.
 static LONG_TURN: [Turn; 1] = [(0, Failer::Folder, (97, 256))];
 
-// The first work of which a call's failing isn't met.
-fn first_unmet_long<R: Threads + Sync + Abort>(rt: &R, alloc: Global) -> Option<usize> {
+// The first work of which a call's failing isn't met: a copy of the long lines under this name, with this header.
+fn first_unmet_long<R: Threads + Sync + Abort>(
+    rt: &R,
+    alloc: Global,
+    line: &str,
+    name: &str,
+    header: &[u8],
+) -> Option<usize> {
     let bytes = joined(rt, alloc, &[(samples(), LONG_TIMES)]);
     let bytes = bytes.as_slice();
     let files: [FileOf<'_>; 4] = [
         ("long.bil", bytes),
         ("long.hdr", LONG),
-        ("out.bil", b"old data"),
+        (name, b"old data"),
         ("out.hdr", b"old header"),
     ];
     let outputs: [Output<'_>; 2] = [
-        ("out.bil", b"old data", bytes),
-        ("out.hdr", b"old header", LONG_MADE),
+        (name, b"old data", bytes),
+        ("out.hdr", b"old header", header),
     ];
     let works: [Work<'_>; 1] = [Work {
-        line: "gdal_translate -q --workers 2 long.bil out.bil",
+        line,
         text: "",
         told: "",
         outputs: &outputs,
@@ -276,10 +297,26 @@ fn first_unmet_long<R: Threads + Sync + Abort>(rt: &R, alloc: Global) -> Option<
     first_unmet(rt, alloc, &files, &works, &LONG_TURN)
 }
 
-// Each call of the folder fails in turn while two workers read long lines.
+const LONG_LINES: &str = "gdal_translate -q --workers 2 long.bil out.bil";
+
+const LONG_STRIPS: &str = "gdal_translate -q --workers 2 long.bil out.bip";
+
+// Each call of the folder fails in turn while two workers make long lines.
 #[test]
 fn each_failing_call_of_two_workers(rt: HostRuntime) {
-    none_wrong(&rt, first_unmet_long(&rt, rt.alloc()));
+    none_wrong(
+        &rt,
+        first_unmet_long(&rt, rt.alloc(), LONG_LINES, "out.bil", LONG_MADE),
+    );
+}
+
+// Each call of the folder fails in turn while two workers read long lines, and others are written.
+#[test]
+fn each_failing_call_of_two_workers_that_read_ahead(rt: HostRuntime) {
+    none_wrong(
+        &rt,
+        first_unmet_long(&rt, rt.alloc(), LONG_STRIPS, "out.bip", LONG_WOVEN),
+    );
 }
 
 // The lines by many workers, of which each has few, and the same through the mosaics.
