@@ -106,25 +106,29 @@ fn two_workers_read_beside_each_other(rt: HostRuntime) {
     assert!(rt; is_copied(&rt, rt.alloc(), &WOVEN, "out.bip"));
 }
 
-// The wide lines by some workers, and the same through the mosaic.
-static WIDE_NUMBERS: [Row<'static>; 5] = [
+// The wide lines by some workers, and the same through the mosaic. Those of the last two files are read in strips.
+static WIDE_NUMBERS: [Row<'static>; 7] = [
     ("gdal_translate -q --workers 1 wide.bil a.bil", 0, "", ""),
     ("gdal_translate -q --workers 2 wide.bil b.bil", 0, "", ""),
     ("gdal_translate -q --workers 4 wide.bil c.bil", 0, "", ""),
     ("gdal_translate -q --workers 2 wide.vrt d.bil", 0, "", ""),
     ("gdal_translate -q --workers 3 wide.vrt e.bil", 0, "", ""),
+    ("gdal_translate -q --workers 4 wide.bil f.bip", 0, "", ""),
+    ("gdal_translate -q --workers 3 wide.vrt g.bip", 0, "", ""),
 ];
 
 // Whether each of these numbers of workers copies the same lines.
 fn are_alike_wide<R: Threads + Sync + Abort>(rt: &R, alloc: Global) -> bool {
     let bytes = joined(rt, alloc, &[(samples(), TIMES)]);
     let bytes = bytes.as_slice();
-    let copies: [FileOf<'_>; 5] = [
+    let copies: [FileOf<'_>; 7] = [
         ("a.bil", bytes),
         ("b.bil", bytes),
         ("c.bil", bytes),
         ("d.bil", bytes),
         ("e.bil", bytes),
+        ("f.bip", bytes),
+        ("g.bip", bytes),
     ];
     let mut folder = wide_folder(rt, alloc, bytes);
     says_all(rt, alloc, &mut folder, &WIDE_NUMBERS) && has_all(rt, alloc, &folder, &copies)
@@ -233,8 +237,8 @@ fn some_workers_over_columns(rt: HostRuntime) {
 }
 
 // Lines of which one of two workers makes thirty-three, and the other thirty-two. Of an output in which bands lie pixel
-// by pixel (BIP) a strip of sixty-four has two million samples: two workers read it beside each other, and the last line
-// is read while those before it are written.
+// by pixel (BIP) a strip of sixty-four has two million samples: two workers read it beside each other, and the last
+// line is read while those before it are written.
 const LONG: &[u8] = b"NROWS 65\nNCOLS 32768\n";
 
 const LONG_TIMES: usize = 8_320;
