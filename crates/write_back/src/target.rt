@@ -349,7 +349,7 @@ impl<F: Folder> Target<F> {
 
     /// Puts a whole block of a band, whose bytes these are, into the draft past the pool, which holds none: a line, or
     /// a column of a cell, whose bytes are those of its record. The samples of each block are of one band. It is as if
-    /// `write_window` were called with the samples of these bytes. `writes` is ticked once.
+    /// `write_window` were called with the samples of these bytes. `writes` is ticked once where the block is written.
     pub fn write_packed<L: Ledger>(
         &mut self,
         folder: &mut F,
