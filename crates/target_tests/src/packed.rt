@@ -1,6 +1,6 @@
 // Whole blocks that are put past the pool by their bytes: lines, lines over whose bytes samples were packed, and
-// columns of a cell. The files of the forms that have such blocks, the forms that have none, windows over a part of such
-// a block, and calls of the folder that fail.
+// columns of a cell. The files of the forms that have such blocks, the forms that have none, windows over a part of
+// such a block, and calls of the folder that fail.
 ghost use Rattle.std.specs.Prelude.{◌≡◌, ◌<◌, [], length, true};
 ghost use Rattle.write_back.specs.Files.{IsTarget};
 ghost use Rattle.write_back.specs.Forms.{cut_of, AreHeld};
@@ -665,8 +665,9 @@ fn written_over<F: Folder>(
     }
 }
 
-// A form, the blocks of the pool, a block that isn't the first one, a window of a part of it, the bytes of the data, and
-// some of them by their places. The samples of the block that the window doesn't cover are read back from the draft.
+// A form, the blocks of the pool, a block that isn't the first one, a window of a part of it, the bytes of the data,
+// and some of them by their places. The samples of the block that the window doesn't cover are read back from the
+// draft.
 type Over = (
     Asked,
     u16,
