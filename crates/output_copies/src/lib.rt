@@ -6,10 +6,16 @@ mod ahead;
 mod calls;
 mod copying;
 mod documents;
+mod making;
 mod output;
+mod packed;
+mod packed_output;
 mod parts;
+mod pieces;
 mod progress;
+mod records;
 mod texts;
+mod worker;
 mod writing;
 
 pub use output::write_output;

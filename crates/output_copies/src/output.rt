@@ -22,6 +22,7 @@ ghost use Rattle.band_blocks.specs.Blocks.{most_blocks};
 use crate::ahead::{Rooms, copy_ahead};
 use crate::copying::{Copier, copy_all};
 use crate::documents::write_document;
+use crate::packed_output::{shares_of, write_packed};
 use crate::parts::area;
 use crate::texts::{put_end, put_size};
 use crate::writing::Writing;
@@ -145,8 +146,8 @@ fn copy_lines<R: Threads + Sync, F: Folder, O: Sink, L: Ledger + Send, W: Ledger
     }
 }
 
-// Publishes the files of an output, all lines of which were written.
-fn publish<F: Folder, W: Ledger>(
+/// Publishes the files of an output, all lines of which were written.
+pub fn publish<F: Folder, W: Ledger>(
     translation: &Translation,
     folder: &mut F,
     target: Target<F>,
@@ -168,9 +169,9 @@ fn publish<F: Folder, W: Ledger>(
     }
 }
 
-// The lines that the lanes of several workers share, as many as blocks are held, where they may read the same blocks.
-// There are none where memory is refused for them.
-fn lines_of<F: Folder, S: Scene>(
+/// The lines that the lanes of several workers share, as many as blocks are held, where they may read the same blocks.
+/// There are none where memory is refused for them.
+pub fn lines_of<F: Folder, S: Scene>(
     translation: &Translation,
     folder: &F,
     writing: &Writing,
@@ -282,6 +283,17 @@ fn write_planned<R: Threads + Sync, F: Folder, O: Sink>(
     translation.plan.rules();
     if let Driver::Vrt = translation.plan.driver {
         return write_document(translation, folder, out, writing);
+    }
+    if let Some(shares) = shares_of(translation, writing) {
+        return write_packed::<R, F, O, Brand, Brand>(
+            rt,
+            translation,
+            folder,
+            out,
+            writing,
+            shares,
+            Blank::new(1),
+        );
     }
     write_files::<R, F, O, Brand, Brand, Brand>(
         rt,

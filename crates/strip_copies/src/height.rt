@@ -52,8 +52,8 @@ pub fn strip_lines(most: u32, width: u32) -> u32
     lines.min(most)
 }
 
-// Whether datasets of a kind are cells.
-fn is_cell(kind: Kind) -> bool
+/// Whether datasets of a kind are cells.
+pub fn is_cell(kind: Kind) -> bool
     ensures cell { result ≡ is_cell kind }
 {
     match kind {
@@ -95,8 +95,8 @@ fn is_cut_at(cat: &Catalog, id: u32, shape: BlockShape) -> bool
     }
 }
 
-// Whether some dataset of the catalog is.
-fn has_blocks(cat: &Catalog, shape: BlockShape) -> bool
+/// Whether some dataset of the catalog is cut into such blocks.
+pub fn has_blocks(cat: &Catalog, shape: BlockShape) -> bool
     ensures blocks { result ≡ has_blocks shape cat.now }
 {
     for id in 0..cat.count() {
@@ -171,9 +171,9 @@ fn is_shared(translation: &Translation, workers: WorkerCount) -> bool
     count > 1 && share >= fewest_read(cat)
 }
 
-// The lines of so many columns whose samples stay in a processor's cache: 65,536 samples, which are 1 MiB; at least one
-// line, and at most so many.
-fn lines_near(most: u32, width: u32) -> u32
+/// The lines of so many columns whose samples stay in a processor's cache: 65,536 samples, which are 1 MiB; at least
+/// one line, and at most so many.
+pub fn lines_near(most: u32, width: u32) -> u32
     requires some { 0 < width }
     requires lines { 1 ≤ most }
     ensures lines { result ≡ lines_near most width }
@@ -182,8 +182,8 @@ fn lines_near(most: u32, width: u32) -> u32
     (SAMPLES_NEAR / width).max(1).min(most)
 }
 
-// The lines of a strip that one worker reads alone: but for those of digits, those that stay in the cache.
-fn lines_alone(translation: &Translation) -> u32
+/// The lines of a strip that one worker reads alone: but for those of digits, those that stay in the cache.
+pub fn lines_alone(translation: &Translation) -> u32
     ensures lines { result ≡ lines_alone translation.now.cat translation.now.plan.size.w }
     ensures some { 1 ≤ result }
 {

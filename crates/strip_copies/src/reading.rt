@@ -130,8 +130,8 @@ pub struct Lines {
     pub end: u32,
 }
 
-// The columns and lines of the dataset.
-fn source_size(translation: &Translation) -> Size
+/// The columns and lines of the dataset.
+pub fn source_size(translation: &Translation) -> Size
     requires translation { IsTranslation translation.now.cat translation.now.id translation.now.plan }
     ensures size { (d : Dataset) → slice_get translation.now.cat translation.now.id ≡ Some d → result ≡ d.head.size }
     ensures limits { IsRaster result }
@@ -236,8 +236,8 @@ fn next_run<S: Scene>(shown: &Shown<S>, rows: u32, lines: Lines) -> Next
     Next { run, direct: false }
 }
 
-// The type of a band of the dataset, counted from 0.
-fn band_type_of(translation: &Translation, band: u32) -> PixelType
+/// The type of a band of the dataset, counted from 0.
+pub fn band_type_of(translation: &Translation, band: u32) -> PixelType
     requires translation { IsTranslation translation.now.cat translation.now.id translation.now.plan }
     requires known { (d : Dataset) → slice_get translation.now.cat translation.now.id ≡ Some d →
         band < band_count d.head }

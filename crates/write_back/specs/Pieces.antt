@@ -3,6 +3,7 @@
 use Rattle.std.specs.Prelude.{◌≡◌, get_or, ℕ, ℤ, pos, length, map, drop, ◌+◌, ◌-◌, ◌*◌, ◌/◌, ◌<◌, ◌≤◌, Bool, true}
 use Rattle.std.specs.Prelude.{false, List, None, if◌then◌else◌}
 use Rattle.std.specs.List.{range_with_len}
+use Rattle.geotransform.specs.declared.types.PixelType.TheVariants.{Int16}
 use Rattle.esri_hdr.specs.declared.header_parts.Layout.{Layout}
 use Rattle.esri_hdr.specs.declared.header_parts.Layout.TheVariants.{Bil, Bip, Bsq}
 use Rattle.esri_hdr.specs.Head.{Head, sample_len}
@@ -76,6 +77,25 @@ plain_of h = record {
   skip = 0;
   band_row = sample_len h.kind;
   total_row = sample_len h.kind;
+  gap = 0;
+  nodata = None;
+  geo = None;
+}
+
+-- the same, of the samples of a tile
+abbrev pub item_head : Head
+item_head = record {
+  size = record {
+    w = 1;
+    h = 1;
+  };
+  bands = 1;
+  kind = Int16;
+  big = true;
+  layout = Bsq;
+  skip = 0;
+  band_row = 2;
+  total_row = 2;
   gap = 0;
   nodata = None;
   geo = None;
