@@ -1,9 +1,10 @@
 -- Lines of small outputs.
-use Rattle.std.proofs.Common.{◌≡◌, ℕ, ℤ, pos, negsuc, ◌+◌, ◌*◌, [], ◌∷◌, true, false, Some, None, refl}
+use Rattle.std.proofs.Common.{◌≡◌, ℕ, ℤ, pos, negsuc, ◌+◌, ◌*◌, List, [], ◌∷◌, true, false, Some, None, refl}
 use Rattle.geotransform.specs.declared.types.PixelType.TheVariants.{Byte, Int16}
 use Rattle.esri_hdr.specs.declared.header_parts.Layout.TheVariants.{Bil}
 use Rattle.catalog.specs.Places.{row_by_row}
 use Rattle.catalog.specs.declared.kind.Kind.TheVariants as kinds
+use Rattle.translate_plan.specs.declared.band.OutBand.{OutBand}
 use Rattle.translate_plan.specs.declared.options.Driver.TheVariants.{Dted, EHdr}
 use Rattle.translate_plan.specs.Plan.{Planned, out_pixel}
 use Rattle.strip_copies.specs.declared.portions.Form.TheVariants.{Lines, Pieces, Records}
@@ -72,6 +73,18 @@ cell_of columns = record { driver = Dted 2; layout = Bil; bands = record { sourc
 -- four workers make 6,000 lines of 4,800 columns in four turns of 375 each, and read 13 at once
 turns : portions_in Lines 4 [] (raw_of 4800) ≡ Some (record { form = Lines; rows = 375; step = 13 })
 turns = refl
+
+-- raw data of so many bands, of 20 columns and 100,000 lines
+abbrev short_of : List OutBand → Planned
+short_of bands = record { driver = EHdr; layout = Bil; bands = bands; size = record { w = 20; h = 100000 }; x = pos 0; y = pos 0; window = record { w = 20; h = 100000 }; geo = None }
+
+-- each of two workers makes 4,096 lines of a band at most: all in 13 turns of 3,847 each
+short : portions_in Lines 2 [] (short_of (record { source = 0; kind = Byte; nodata = None } ∷ [])) ≡ Some (record { form = Lines; rows = 3847; step = 32 })
+short = refl
+
+-- of three bands these are 1,365 lines of all: all in 37 turns of 1,352 each
+short_of_three : portions_in Lines 2 [] (short_of (record { source = 0; kind = Byte; nodata = None } ∷ record { source = 1; kind = Byte; nodata = None } ∷ record { source = 2; kind = Byte; nodata = None } ∷ [])) ≡ Some (record { form = Lines; rows = 1352; step = 32 })
+short_of_three = refl
 
 -- a cell is made in one turn: of its lines, or of its columns, each of four workers makes 901
 pieces : portions_in Pieces 4 [] (cell_of 3601) ≡ Some (record { form = Pieces; rows = 901; step = 16 })

@@ -27,6 +27,10 @@ most_round = 8388608
 abbrev pub most_packed : ℕ
 most_packed = 16777216
 
+-- The most blocks, lines of a band or columns, that each worker packs at a time: each of them has room of its own.
+abbrev pub blocks_each : ℕ
+blocks_each = 4096
+
 -- The columns of a cell that are read at once.
 abbrev pub piece_columns : ℕ
 piece_columns = 16
@@ -103,9 +107,13 @@ samples_in Lines p = p.size.w * length p.bands
 samples_in Pieces p = p.size.w * length p.bands
 samples_in Records p = p.size.h
 
+-- how many of them have no more samples than each of so many workers may make at a time
+abbrev pub share_by_samples : Form → ℕ → Planned → ℕ
+share_by_samples form workers p = most_of form / workers / samples_in form p
+
 -- how many of them each of so many workers may make at a time
 abbrev pub share_of_each : Form → ℕ → Planned → ℕ
-share_of_each form workers p = most_of form / workers / samples_in form p
+share_of_each form workers p = min (share_by_samples form workers p) (blocks_each / length p.bands)
 
 -- Of an extent each worker makes so many at a time, where it may make `most` of them: all are made in as few turns as
 -- can be, and about as many in each.

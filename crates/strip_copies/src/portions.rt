@@ -5,7 +5,7 @@ ghost use Rattle.catalog.specs.Drivers.{Dataset};
 ghost use Rattle.strip_copies.specs.Copies.{IsTranslation};
 ghost use Rattle.strip_copies.specs.Portions.{extent_of, form_by, form_of, form_of_columns, form_of_lines, has_columns};
 ghost use Rattle.strip_copies.specs.Portions.{most_of, most_packed, pays, portions_by, portions_in, portions_of};
-ghost use Rattle.strip_copies.specs.Portions.{rows_of, samples_in, share_of_each, step_of, TakesForm};
+ghost use Rattle.strip_copies.specs.Portions.{rows_of, samples_in, share_by_samples, share_of_each, step_of, TakesForm};
 
 use crate::height::{BlockShape, has_blocks, is_cell, lines_alone, lines_near};
 use crate::pieces::is_copied;
@@ -44,6 +44,9 @@ const MOST_ROUND: u32 = 8_388_608;
 
 // The most samples of a cell, or of lines that are copied from one.
 const MOST_PACKED: u32 = 16_777_216;
+
+// The most blocks, lines of a band or columns, that each worker packs at a time: each of them has room of its own.
+const BLOCKS_EACH: u32 = 4_096;
 
 // The columns of a cell that are read at once: so many records stay in a processor's cache.
 const PIECE_COLUMNS: u32 = 16;
@@ -186,10 +189,10 @@ fn samples_in(form: Form, plan: &Plan) -> u64
     }
 }
 
-// How many of them each of so many workers may make at a time.
-fn share_of_each(form: Form, plan: &Plan, workers: u32) -> u32
+// How many of them have no more samples than each of so many workers may make at a time.
+fn share_by_samples(form: Form, plan: &Plan, workers: u32) -> u32
     requires some { 1 ≤ workers }
-    ensures share { result ≡ share_of_each form workers plan.now }
+    ensures share { result ≡ share_by_samples form workers plan.now }
     ensures bound { workers * (result * samples_in form plan.now) ≤ most_packed }
 {
     let most = most_of(form);
@@ -197,6 +200,18 @@ fn share_of_each(form: Form, plan: &Plan, workers: u32) -> u32
     let samples = samples_in(form, plan);
     let share = room as u64 / samples;
     share as u32
+}
+
+// How many of them each of so many workers may make at a time.
+fn share_of_each(form: Form, plan: &Plan, workers: u32) -> u32
+    requires some { 1 ≤ workers }
+    ensures share { result ≡ share_of_each form workers plan.now }
+    ensures bound { workers * (result * samples_in form plan.now) ≤ most_packed }
+{
+    plan.rules();
+    let share = share_by_samples(form, plan, workers);
+    let bands = plan.count();
+    share.min(BLOCKS_EACH / bands)
 }
 
 // In how many turns so many workers make all of an extent, at most so many each at a time.
@@ -286,7 +301,7 @@ fn portions_by(translation: &Translation, workers: u32) -> Option<Portions>
 /// of cells, and where a cell is read or written, and samples aren't copied or both are cells.
 ///
 /// All workers together make 8,388,608 samples of lines at most at a time, and 16,777,216 of what is copied from a cell
-/// or into one.
+/// or into one; and each of them makes 4,096 lines of a band, or columns, at most.
 pub fn portions_of(translation: &Translation, workers: WorkerCount) -> Option<Portions>
     requires translation { IsTranslation translation.now.cat translation.now.id translation.now.plan }
     ensures portions { (d : Dataset) → slice_get translation.now.cat translation.now.id ≡ Some d →
