@@ -28,7 +28,7 @@ use crate::texts::{put_end, put_size};
 use crate::writing::Writing;
 use error_lines::Fault;
 use geotransform::Sample;
-use lane_teams::lines_for;
+use lane_teams::{WorkerCount, lines_for};
 use outside::{Counter, Folder, Sink};
 use shared_lines::{Lines, Scene};
 use std::marker::Brand;
@@ -63,7 +63,13 @@ fn copier_for<'a, F: Folder, L: Ledger, W: Ledger, S: Scene>(
     ensures quiet { IfOk result (λ copier. copier.quiet ≡ writing.now.quiet) }
     ensures memory { IfErr result (λ f. f ≡ Fault.Memory) }
 {
-    let reader = StripReader::new(translation, writing.workers, writing.blocks, loads)?;
+    let reader = StripReader::new(
+        translation,
+        writing.workers,
+        WorkerCount::USUAL,
+        writing.blocks,
+        loads,
+    )?;
     let writes = Counter::open(writes);
     let rows = strip_height(translation, writing.workers, writing.blocks);
     let ahead = writing.workers.get() > 1;

@@ -131,6 +131,7 @@ pub fn write_packed<R: Threads + Sync, F: Folder, O: Sink, W: Ledger, S: Scene>(
         form: portions.form,
         rows: portions.rows,
         step: portions.step,
+        workers: writing.workers,
         shared,
         quiet: writing.quiet,
     };

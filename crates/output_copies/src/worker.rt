@@ -124,8 +124,8 @@ pub struct Worker<F: Folder> {
 }
 
 /// What workers make: lines of a translation's output, or columns, packed so; how many of them each worker makes at a
-/// time, and how much of these it reads at once; the lines that their lanes share, if there are any; and whether
-/// nothing is told.
+/// time, and how much of these it reads at once; how many workers there are; the lines that their lanes share, if there
+/// are any; and whether nothing is told.
 #[derive(Drop)]
 pub struct Task<'a, 'b, S: Scene> {
     pub translation: &'a Translation,
@@ -133,6 +133,7 @@ pub struct Task<'a, 'b, S: Scene> {
     pub form: Form,
     pub rows: u32,
     pub step: u32,
+    pub workers: WorkerCount,
     pub shared: Option<&'b shared_lines::Lines<S>>,
     pub quiet: bool,
 }
@@ -177,9 +178,10 @@ struct Kit<F: Folder> {
     samples: Vec<Sample>,
 }
 
-// A lane, and room for what it reads. Nobody counts its loads.
+// A lane of one of so many workers, and room for what it reads. Nobody counts its loads.
 fn kit_for<F: Folder, L: Ledger>(
     translation: &Translation,
+    workers: WorkerCount,
     blocks: u32,
     blank: Blank,
 ) -> Result<Kit<F>, AllocError>
@@ -196,6 +198,7 @@ fn kit_for<F: Folder, L: Ledger>(
     let reader: StripReader<F, L> = StripReader::new(
         translation,
         WorkerCount::USUAL,
+        workers,
         blocks,
         blank,
     )?;
@@ -301,7 +304,7 @@ fn hire_one<F: Folder, S: Scene>(
         task.now.translation.now.id task.now.translation.now.plan task.now.packing task.now.form task.now.rows
         task.now.step) }
 {
-    let kit = kit_for::<F, Brand>(task.translation, blocks, Blank::new(1))?;
+    let kit = kit_for::<F, Brand>(task.translation, task.workers, blocks, Blank::new(1))?;
     let rooms = desk_rooms(task)?;
     let view = folder.fork()?;
     let Kit {

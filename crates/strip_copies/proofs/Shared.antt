@@ -1,5 +1,5 @@
 -- Products and quotients of what several workers share, and the form that an output takes.
-use Rattle.std.proofs.Common.{◌≡◌, ℕ, ◌+◌, ◌*◌, ◌/◌, ◌%◌, ◌<◌, ◌≤◌, ◌∙◌, ap, sym, subst, refl, min, Bool, true, false, List, Option, Some, None, inl, inr, arith}
+use Rattle.std.proofs.Common.{◌≡◌, ℕ, ◌+◌, ◌*◌, ◌/◌, ◌%◌, ◌<◌, ◌≤◌, ◌∙◌, ap, sym, subst, refl, max, min, Bool, true, false, List, Option, Some, None, inl, inr, arith}
 use Rattle.std.specs.Prelude.{nat_lt, slice_get, if◌then◌else◌}
 use Rattle.std.proofs.Math.Nat.{add-mul, div-le_self, div-mul-le_self, mod-lt, mul-le-mul, mul-le-mul_right, mul_comm}
 use Rattle.std.proofs.lemmas.Bool.{cases_lt, le-ltb, lt-ltb}
@@ -90,6 +90,28 @@ shares_fit room workers samples most few =
     let turned : workers * (room / workers) ≡ room / workers * workers = mul_comm workers (room / workers) in
     let fits : room / workers * workers ≤ room = div-mul-le_self room workers in
     omega arith
+
+-- fewer lines of so many columns fit where more do
+pub fewer_lines : (columns lines most bound : ℕ) → lines ≤ most → columns * most ≤ bound → columns * lines ≤ bound
+fewer_lines columns lines most bound less fits =
+    let same : columns ≤ columns = omega arith in
+    let all : columns * lines ≤ columns * most = mul-le-mul same less in
+    omega arith
+
+-- the lines of a share, at least one, have no more samples than the share, or than one line
+pub beside_fits : (share width : ℕ) → width * max (share / width) 1 ≤ max width share
+beside_fits share width = elim (cases_lt (share / width) 1) [
+  | inl none ↦
+      let one : max (share / width) 1 ≡ 1 = omega arith in
+      let times : width * max (share / width) 1 ≡ width * 1 = ap (λ n. width * n) one in
+      omega arith
+  | inr some ↦
+      let many : max (share / width) 1 ≡ share / width = omega arith in
+      let times : width * max (share / width) 1 ≡ width * (share / width) = ap (λ n. width * n) many in
+      let turned : width * (share / width) ≡ share / width * width = mul_comm width (share / width) in
+      let fits : share / width * width ≤ share = div-mul-le_self share width in
+      omega arith
+]
 
 -- a share is no more than the room
 pub share_few : (room workers samples : ℕ) → room / workers / samples ≤ room

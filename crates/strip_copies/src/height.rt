@@ -5,7 +5,8 @@ ghost use Rattle.strip_copies.specs.declared.height.BlockShape.TheVariants.{Squa
 ghost use Rattle.strip_copies.specs.Heights.{fewest_read, has_blocks, is_cell, is_cut_into, is_grid, is_made};
 ghost use Rattle.strip_copies.specs.Heights.{is_mosaic};
 ghost use Rattle.strip_copies.specs.Heights.{is_shared, is_tall, is_woven, lines_alone, lines_copied, lines_each};
-ghost use Rattle.strip_copies.specs.Heights.{lines_held, lines_near, most_lines, strip_height, most_samples};
+ghost use Rattle.strip_copies.specs.Heights.{lines_beside, lines_held, lines_near, most_lines, room_of_each};
+ghost use Rattle.strip_copies.specs.Heights.{strip_height, most_samples};
 ghost use Rattle.catalog.specs.Dataset.{square_side};
 ghost use Rattle.geotransform.specs.Limits.{most_side};
 ghost use Rattle.lane_teams.specs.Workers.{most_workers};
@@ -223,6 +224,18 @@ pub fn most_lines(translation: &Translation, workers: WorkerCount) -> u32
     } else {
         lines_alone(translation)
     }
+}
+
+/// The lines of so many columns for which each of so many readers has room, at least one: all of them have room for
+/// 4,194,304 samples at most, or each for one line.
+pub fn lines_beside(readers: WorkerCount, width: u32) -> u32
+    requires some { 0 < width }
+    ensures lines { result ≡ lines_beside readers width }
+    ensures least { 1 ≤ result }
+    ensures share { width * result ≤ room_of_each readers width }
+{
+    let count = readers.get();
+    (MOST_SAMPLES / count / width).max(1)
 }
 
 /// Whether several lanes of a translation may read the same blocks: the walk met a mosaic, whose squares each of them
