@@ -323,7 +323,7 @@ fn each_failing_call_of_two_workers(rt: HostRuntime) {
     );
 }
 
-// Each call of the folder fails in turn while two workers read long lines, and others are written.
+// The same while two workers read long lines, and others are written.
 #[test]
 fn each_failing_call_of_two_workers_that_read_ahead(rt: HostRuntime) {
     none_wrong(
