@@ -139,6 +139,44 @@ fn some_workers_over_wide_lines(rt: HostRuntime) {
     assert!(rt; are_alike_wide(&rt, rt.alloc()));
 }
 
+// Short lines of these bytes and of ones behind them. Each of two workers makes 4,000 of them at a time, so that all are
+// made in two rounds.
+const SHORT: &[u8] = b"NROWS 16000\nNCOLS 125\n";
+
+const SHORT_TIMES: usize = 7_812;
+
+const SHORT_REST: usize = 128;
+
+static SHORT_NUMBERS: [Row<'static>; 3] = [
+    ("gdal_translate -q --workers 1 short.bil a.bil", 0, "", ""),
+    ("gdal_translate -q --workers 2 short.bil b.bil", 0, "", ""),
+    (
+        "gdal_translate --workers 2 short.bil c.bil",
+        0,
+        "Input file size is 125, 16000\n0...10...20...30...40...50...60...70...80...90...100 - done.\n",
+        "",
+    ),
+];
+
+// Whether each of these numbers of workers copies the same short lines.
+fn are_alike_short<R: Threads + Sync + Abort>(rt: &R, alloc: Global) -> bool {
+    let bytes = joined(
+        rt,
+        alloc,
+        &[(samples(), SHORT_TIMES), (b"\x01", SHORT_REST)],
+    );
+    let bytes = bytes.as_slice();
+    let files: [FileOf<'_>; 2] = [("short.bil", bytes), ("short.hdr", SHORT)];
+    let copies: [FileOf<'_>; 3] = [("a.bil", bytes), ("b.bil", bytes), ("c.bil", bytes)];
+    let mut folder = folder_of(rt, alloc, &files, &[]);
+    says_all(rt, alloc, &mut folder, &SHORT_NUMBERS) && has_all(rt, alloc, &folder, &copies)
+}
+
+#[test]
+fn two_workers_over_short_lines(rt: HostRuntime) {
+    assert!(rt; are_alike_short(&rt, rt.alloc()));
+}
+
 // A tile whose bytes are these again and again, and ones behind them, which is copied to a cell, and the cell to a tile
 // by some workers, each of which reads lines of all columns.
 const TILE_TIMES: usize = 11_268;
