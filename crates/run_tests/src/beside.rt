@@ -139,7 +139,7 @@ fn some_workers_over_wide_lines(rt: HostRuntime) {
     assert!(rt; are_alike_wide(&rt, rt.alloc()));
 }
 
-// Short lines of these bytes and of ones behind them. Each of two workers makes 4,000 of them at a time, so that all are
+// Short lines of these bytes and of ones behind them. Each of two workers makes 4,000 of them at a time, so all are
 // made in two rounds.
 const SHORT: &[u8] = b"NROWS 16000\nNCOLS 125\n";
 
