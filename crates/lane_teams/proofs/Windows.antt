@@ -15,7 +15,7 @@ use Rattle.catalog.proofs.Walked.{dataset_kept}
 use Rattle.band_blocks.proofs.Corners.{rect_at, rows_cut}
 use Rattle.band_blocks.specs.declared.fault.LoadFault.{LoadFault}
 use Rattle.nearest_window.specs.declared.window.Window.{Window}
-use Rattle.nearest_window.specs.Shown.{IsInBand, IsWindow}
+use Rattle.nearest_window.specs.Windows.{IsInBand, IsWindow}
 use Rattle.lane_teams.specs.Parts.{lines_before, lines_of, part_of, AreOfWindow}
 
 pub before_rises : (lines n a b : ℕ) → 0 < n → a ≤ b → lines_before lines n a ≤ lines_before lines n b

@@ -7,7 +7,7 @@ use Rattle.catalog.specs.Drivers.{Dataset}
 use Rattle.catalog.specs.Pixels.{pixel_of, pixel_of_name}
 use Rattle.catalog.specs.Places.{row_by_row}
 use Rattle.nearest_window.specs.declared.window.Window.{Window}
-use Rattle.nearest_window.specs.Shown.{IsInBand}
+use Rattle.nearest_window.specs.Windows.{IsInBand}
 
 -- How many of n lanes read a window of so many lines and samples: the first alone where there are fewer lines than
 -- lanes, or where less than `fewest` samples come to each.

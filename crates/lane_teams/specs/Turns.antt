@@ -9,7 +9,7 @@ use Rattle.band_blocks.specs.declared.fault.LoadFault.TheVariants.{FolderFault}
 use Rattle.band_blocks.specs.Open.{IsUnchanged}
 use Rattle.nearest_window.specs.Lanes.{LaneView, room_of}
 use Rattle.nearest_window.specs.Right.{IsRightLane, TellsChangeIn}
-use Rattle.nearest_window.specs.Shown.{IsWindow}
+use Rattle.nearest_window.specs.Windows.{IsWindow}
 use Rattle.lane_teams.specs.declared.cutting.Job.{Job}
 use Rattle.lane_teams.specs.declared.turns.Turn.{Turn}
 use Rattle.lane_teams.specs.Parts.{part_of, AreOfWindow}

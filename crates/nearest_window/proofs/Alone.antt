@@ -17,8 +17,8 @@ use Rattle.band_blocks.specs.Keys.{IsKeyOf}
 use Rattle.nearest_window.specs.declared.picture.Picture.{Picture}
 use Rattle.nearest_window.specs.declared.picture_places.Places.{Places}
 use Rattle.nearest_window.specs.declared.members.Piece.{Piece}
-use Rattle.nearest_window.specs.Lanes.{pixel_at}
-use Rattle.nearest_window.specs.Right.{AreRecalled, IsPartBlock, IsRecalled}
+use Rattle.nearest_window.specs.BlockKeys.{pixel_at, IsPartBlock}
+use Rattle.nearest_window.specs.Right.{AreRecalled, IsRecalled}
 use Rattle.nearest_window.specs.Shown.{IsAreaOf, IsPartOf, IsPictureOf}
 use Rattle.nearest_window.specs.Taken.{place_at}
 use Rattle.nearest_window.proofs.Blocks.{same_item}

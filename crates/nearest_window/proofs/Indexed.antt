@@ -11,7 +11,8 @@ use Rattle.catalog.specs.Drivers.{Dataset, document_of}
 use Rattle.band_blocks.specs.declared.key.BlockKey.{BlockKey}
 use Rattle.nearest_window.specs.declared.indexes.Kept.{Kept}
 use Rattle.nearest_window.specs.Indexes.{all_listed, is_of, kept_behind, listed_of, without_index}
-use Rattle.nearest_window.specs.Right.{IsIndexIn, IsMosaicKey}
+use Rattle.nearest_window.specs.Right.{IsIndexIn}
+use Rattle.nearest_window.specs.BlockKeys.{IsMosaicKey}
 
 pub of_dataset : (kept : Kept) (dataset band : ℕ) → is_of kept dataset band ≡ true → kept.dataset ≡ dataset
 of_dataset kept dataset band h = grind (arith, nat_tests)

@@ -12,7 +12,7 @@ ghost use Rattle.catalog.specs.Pixels.{pixel_of_name};
 ghost use Rattle.catalog.specs.Places.{row_by_row};
 ghost use Rattle.nearest_window.specs.Lanes.{room_of};
 ghost use Rattle.nearest_window.specs.Right.{TellsChangeIn};
-ghost use Rattle.nearest_window.specs.Shown.{IsWindow};
+ghost use Rattle.nearest_window.specs.Windows.{IsWindow};
 ghost use Rattle.lane_teams.specs.Ready.{AreLanesFresh, AreLanesReady};
 ghost use Rattle.lane_teams.specs.Turns.{OnlyReadByViews};
 ghost use Rattle.translate_plan.specs.Plan.{out_pixel};

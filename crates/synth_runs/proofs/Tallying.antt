@@ -10,7 +10,7 @@ use Rattle.catalog.specs.Drivers.{Dataset}
 use Rattle.catalog.proofs.Found.{some_is}
 use Rattle.catalog.specs.Pixels.{pixel_of_name}
 use Rattle.catalog.specs.Places.{row_by_row}
-use Rattle.nearest_window.specs.Shown.{IsInBand}
+use Rattle.nearest_window.specs.Windows.{IsInBand}
 use Rattle.strip_copies.specs.Copies.{lines_rect}
 use Rattle.synthetic_rasters.specs.Tally.{Totals, tally_of, tally_text}
 use Rattle.synthetic_rasters.proofs.Tallied.{count_few}

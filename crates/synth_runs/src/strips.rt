@@ -6,7 +6,7 @@ ghost use Rattle.outside.specs.Reading.{WhereTold};
 ghost use Rattle.catalog.specs.Drivers.{Dataset};
 ghost use Rattle.catalog.specs.Walk.{IsWalked};
 ghost use Rattle.nearest_window.specs.Right.{IsFresh, IsReady};
-ghost use Rattle.nearest_window.specs.Shown.{IsWindow};
+ghost use Rattle.nearest_window.specs.Windows.{IsWindow};
 ghost use Rattle.strip_copies.specs.Copies.{lines_rect};
 ghost use Rattle.output_copies.specs.Copying.{MayEnd};
 ghost use Rattle.synthetic_rasters.specs.Tally.{tally_of};

@@ -1,7 +1,7 @@
 use Rattle.std.proofs.Common.{rules, ◌≡◌, ◌⊎◌, ◌∙◌, inl, inr, subst, pos, Contains, to_z, of_z}
 use mir.Syntax.{w128}
 use Rattle.std.specs.Prelude.{slice_index_or}
-use Rattle.nearest_window.specs.Lanes.{pixel_at}
+use Rattle.nearest_window.specs.BlockKeys.{pixel_at}
 use Rattle.nearest_window.proofs.Alone.{are_recalled_put}
 use Rattle.nearest_window.proofs.lane.Lane.note.Goals as goal
 

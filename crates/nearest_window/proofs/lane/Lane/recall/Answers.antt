@@ -1,7 +1,7 @@
 use Rattle.std.proofs.Common.{rules, ◌≡◌, true, sym, subst, Contains, to_z, of_z}
 use mir.Syntax.{w128}
 use Rattle.geotransform.specs.Types.{is_in}
-use Rattle.nearest_window.specs.Lanes.{pixel_at}
+use Rattle.nearest_window.specs.BlockKeys.{pixel_at}
 use Rattle.nearest_window.specs.Right.{IsRecalled}
 use Rattle.nearest_window.proofs.Alone.{one_in, recalled_in, recalled_block}
 use Rattle.nearest_window.proofs.lane.Lane.recall.Goals as goal
