@@ -13,8 +13,10 @@ use Rattle.input_points.specs.Reading.{Reading, start, coming}
 use Rattle.error_lines.specs.declared.faults.Fault.{Fault}
 use Rattle.error_lines.specs.declared.faults.Fault.TheVariants.{FolderFault, InputFault, OutFault}
 use Rattle.error_lines.specs.Faults.{IsOutside, HasCauses}
-use Rattle.gdal_cli.specs.Location.{answers, line_text, line_fault, lines_text, PutsText}
-use Rattle.gdal_cli.specs.Input.{IsReading, Answered, EndsLines, AnswersPieces, AnswersInput, StopsBehind, HoldsOfGiven}
+use Rattle.gdal_cli.specs.Location.{answers, line_text, line_fault}
+use Rattle.gdal_cli.specs.Jobs.{lines_text, PutsText}
+use Rattle.gdal_cli.specs.Input.{IsReading, Answered, EndsLines, AnswersPieces, AnswersInput, HoldsOfGiven}
+use Rattle.gdal_cli.specs.Run.{StopsBehind}
 use Rattle.gdal_cli.proofs.Ended.{nothing_put}
 use Rattle.gdal_cli.proofs.Lines.{answered_none, answered_more, ends_of, failed_behind, stopped, whole_input, last_input, line_stops, ends_behind, gone_on, stopped_by}
 
