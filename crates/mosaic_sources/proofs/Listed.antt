@@ -5,8 +5,8 @@ use Rattle.std.proofs.lemmas.Bool.{cases_lt}
 use Rattle.std.proofs.lemmas.List.{ext_get_or}
 use Rattle.std.proofs.lemmas.List.FromFn.{get_or-map-range_with_len, length-map-range_with_len, sum_by-map-range_with_len_more}
 use Rattle.std.proofs.lemmas.List.Sums.{sum_by-cons, sum_by-le}
-use Rattle.mosaic_sources.specs.Rows.{passing_from, stretch_of, list_by, most_listed}
-use Rattle.mosaic_sources.specs.Stretches.{is_in_span, holding_lines, held_by, IsWithinCount, AreListsOf}
+use Rattle.mosaic_sources.specs.Rows.{passing_from, stretch_of, list_by, most_listed, is_in_span}
+use Rattle.mosaic_sources.specs.Stretches.{holding_lines, held_by, IsWithinCount, AreListsOf}
 use Rattle.mosaic_sources.specs.declared.spans.Span.{Span}
 use Rattle.mosaic_sources.proofs.Held.{stretch_within, le_true, le_false, lt_true, lt_false, and_true, and_false_left, and_false_right}
 

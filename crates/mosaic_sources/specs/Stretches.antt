@@ -1,12 +1,8 @@
--- Spans of lines, and the stretches that they hold.
-use Rattle.std.specs.Prelude.{ℕ, Bool, ◌&&◌, List, ◌≡◌, ◌⊎◌, ◌<◌, ◌≤◌, ◌+◌, ◌-◌, length, nat_le, nat_lt}
+-- The stretches of lines that spans hold, and how lists of them are made.
+use Rattle.std.specs.Prelude.{ℕ, List, ◌≡◌, ◌⊎◌, ◌<◌, ◌≤◌, ◌+◌, ◌-◌, length}
 use Rattle.std.specs.List.{Any, Contains, sum_by}
-use Rattle.mosaic_sources.specs.Rows.{passing_from, list_by}
+use Rattle.mosaic_sources.specs.Rows.{passing_from, list_by, is_in_span}
 use Rattle.mosaic_sources.specs.declared.spans.Span.{Span}
-
--- whether a line is between a span's first line and its end
-abbrev pub is_in_span : Span → ℕ → Bool
-is_in_span s y = nat_le s.first y && nat_lt y s.end
 
 -- the numbers of the spans that hold a line, in order
 abbrev pub holding_lines : List Span → ℕ → List ℕ

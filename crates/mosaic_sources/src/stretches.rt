@@ -2,8 +2,8 @@
 ghost use Rattle.std.specs.Prelude.{◌≡◌, ℕ, ◌<◌, ◌≤◌, ◌+◌, ◌-◌, ◌*◌, IfOk, length, slice_index_or};
 ghost use Rattle.std.specs.List.{All, Contains};
 ghost use Rattle.std.specs.List.Sorted.{IsStrictlyIncreasing};
-ghost use Rattle.mosaic_sources.specs.Stretches.{holding_lines, held_by, HasEdges, IsWithinCount, is_in_span};
-ghost use Rattle.mosaic_sources.specs.Rows.{IsInner};
+ghost use Rattle.mosaic_sources.specs.Stretches.{holding_lines, held_by, HasEdges, IsWithinCount};
+ghost use Rattle.mosaic_sources.specs.Rows.{is_in_span, IsInner};
 ghost use Rattle.mosaic_sources.specs.Rows as rows;
 ghost use Rattle.vrt_profile.specs.Values.{most_sources};
 
