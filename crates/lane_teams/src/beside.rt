@@ -11,7 +11,8 @@ ghost use Rattle.nearest_window.specs.Right.{IsReady, TellsChangeIn};
 ghost use Rattle.nearest_window.specs.Windows.{IsWindow};
 ghost use Rattle.lane_teams.specs.Parts.{AreOfWindow};
 ghost use Rattle.lane_teams.specs.Refusals.{IsTeamAnswer};
-ghost use Rattle.lane_teams.specs.Turns.{AreReady, HaveRead, OnlyReadByViews};
+ghost use Rattle.lane_teams.specs.Turns.{AreReady, HaveRead};
+ghost use Rattle.lane_teams.specs.Ready.{OnlyReadByViews};
 
 use crate::cutting::{Job, part_of};
 use crate::pair::both;
