@@ -2,8 +2,8 @@
 use Rattle.std.proofs.Common.{◌≡◌, ℕ, zero, suc, ◌-◌, ◌<◌, ◌≤◌, Bool, true, false, cond, List, length, Result, Ok, Err, refl, sym, ap, ◌∙◌, arith}
 use Rattle.vrt_markup.specs.Items.{item_at, Item, bad, comment, run, open_tag, close_tag, Tag}
 use Rattle.vrt_markup.specs.Forest.{is_all_white}
-use Rattle.vrt_markup.specs.Views.{IsShorter}
-use Rattle.vrt_markup.specs.Tree.{space_step, space_by, space, Root, root_item, root_behind}
+use Rattle.vrt_markup.specs.Fronts.{IsShorter, root_behind}
+use Rattle.vrt_markup.specs.Tree.{space_step, space_by, space, Root, root_item}
 use Rattle.vrt_markup.specs.declared.fault.VrtFault.{VrtFault}
 use Rattle.vrt_markup.specs.declared.fault.VrtFault.TheVariants.{BadText}
 use Rattle.lists_and_answers.specs.Answers.{◌>>=◌}

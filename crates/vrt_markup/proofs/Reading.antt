@@ -5,7 +5,8 @@ use Rattle.vrt_markup.specs.Items.{item_at, bad, comment, run, open_tag, close_t
 use Rattle.lists_and_answers.specs.Answers.{◌>>=◌}
 use Rattle.vrt_markup.specs.Forest.{Forest, stop, text, element, Read, with_text, with_element, nodes, inner, read_as, over, all_white, is_all_white, text_of, child_of, decoded}
 use Rattle.vrt_markup.specs.Views.{past}
-use Rattle.vrt_markup.specs.Kept.{seen, worded, first_child, stepped, Fails, Gives}
+use Rattle.vrt_markup.specs.Kept.{seen, worded, first_child, Fails, Gives}
+use Rattle.vrt_markup.specs.Fronts.{stepped}
 use Rattle.vrt_markup.specs.declared.fault.VrtFault.{VrtFault}
 use Rattle.vrt_markup.specs.declared.fault.VrtFault.TheVariants.{BadText, Limit}
 use Rattle.vrt_markup.proofs.EndTags.{end_item, equal_itself}

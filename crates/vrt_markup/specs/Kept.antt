@@ -36,11 +36,6 @@ first_child (Some place) later = Some place
 abbrev pub worded : List ℕ → Option ℕ → Forest → List ℕ × Option ℕ
 worded front child forest = (front ++ text_of forest, first_child child (child_of forest))
 
--- the parts so far with a child element
-abbrev pub stepped : {S : Type 0} → (S → ℕ → Tag → Forest → Result S VrtFault) → Result S VrtFault → ℕ → Tag → Forest →
-    Result S VrtFault
-stepped step kept place tag inside = kept >>= λ s. step s place tag inside
-
 -- the parts, unless a child is at fault
 abbrev pub kept_of : {S : Type 0} → S → Result (Unit {0}) VrtFault → Result S VrtFault
 kept_of s (Ok x) = Ok s

@@ -55,10 +55,6 @@ abbrev pub root_item : ℕ → List ℕ → Item → Result Root VrtFault
 root_item total bytes (open_tag tag rest) = Ok (record { place = total - length bytes; tag = tag; rest = rest })
 root_item total bytes other = Err (BadText (total - length bytes))
 
--- the same behind comments and white space
-abbrev pub root_behind : ℕ → List ℕ → Result Root VrtFault
-root_behind total bytes = space total bytes >>= λ start. root_item total start (item_at start)
-
 unfoldable pub root_at : ℕ → List ℕ → Result Root VrtFault
 root_at total bytes = do
   front ← declared_at total (without_mark bytes)

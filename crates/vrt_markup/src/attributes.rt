@@ -3,7 +3,7 @@ ghost use Rattle.std.specs.Prelude.{◌≡◌, ◌<◌, ◌≤◌, ◌==◌, ℕ
 ghost use Rattle.std.specs.Option.{option_map};
 ghost use Rattle.vrt_markup.specs.Items.{is_some, pair_at, is_equal, pairs, attribute, is_distinct};
 ghost use Rattle.vrt_markup.specs.Keys.{last_bytes, key_of, number_of, apart, double_from, double_of, spread_with};
-ghost use Rattle.vrt_markup.specs.Views.{pair_view, spread_view};
+ghost use Rattle.vrt_markup.specs.Attributes.{pair_view, spread_view};
 
 use crate::tokens::{byte_at, has_space, name_at, spaces_at, trim_front, value_at};
 use std::alloc::{AllocError, Global};

@@ -4,7 +4,8 @@ ghost use Rattle.vrt_markup.specs.Items as items;
 ghost use Rattle.vrt_markup.specs.Items.{is_name, item_at};
 ghost use Rattle.vrt_markup.specs.Forest.{Forest, deepest, nodes, inner, read_as};
 ghost use Rattle.vrt_markup.specs.Views.{tag_view, Finds, Shortens};
-ghost use Rattle.vrt_markup.specs.Kept.{Gives, seen, stepped, kept_of};
+ghost use Rattle.vrt_markup.specs.Kept.{Gives, seen, kept_of};
+ghost use Rattle.vrt_markup.specs.Fronts.{stepped};
 ghost use Rattle.vrt_markup.specs.declared.fault.VrtFault.{VrtFault};
 
 use crate::ends::{own_end, own_start};

@@ -2,7 +2,8 @@
 use Rattle.std.proofs.Common.{◌≡◌, ℕ, zero, suc, ◌-◌, ◌*◌, ◌<◌, Bool, true, false, List, ◌∷◌, ◌++◌, length, replicate, flat_map, Option, None, Result, Ok, refl, sym, ap, ◌∙◌, append_assoc}
 use Rattle.vrt_markup.specs.Items.{plain_len, run, open_tag, item_at, Pair, Tag}
 use Rattle.vrt_markup.specs.Forest.{Forest, stop, Read, nodes, inner, read_as, is_all_white, text_of, child_of}
-use Rattle.vrt_markup.specs.Kept.{seen, stepped}
+use Rattle.vrt_markup.specs.Kept.{seen}
+use Rattle.vrt_markup.specs.Fronts.{stepped}
 use Rattle.vrt_writing.specs.Spelled.{Markup, nothing, both, words, empty, group, written, indent, pair_text, escaped}
 use Rattle.vrt_writing.specs.Reread.{IsTagName, words_forest}
 use Rattle.vrt_markup.specs.declared.fault.VrtFault.{VrtFault}

@@ -1,6 +1,7 @@
 use Rattle.std.proofs.Common.{arith, ap, sym, subst, ◌∙◌, ◌-◌, length, ◌&&◌}
 use Rattle.vrt_markup.specs.Forest.{nodes, inner, read_as}
-use Rattle.vrt_markup.specs.Kept.{seen, stepped, kept_of, Fails}
+use Rattle.vrt_markup.specs.Kept.{seen, kept_of, Fails}
+use Rattle.vrt_markup.specs.Fronts.{stepped}
 use Rattle.vrt_markup.specs.Views.{tag_view}
 use Rattle.vrt_markup.proofs.Reading.{read_comment, read_deep, seen_run, seen_open, child_fails}
 use Rattle.vrt_markup.proofs.children.child_nodes.Goals as goal
