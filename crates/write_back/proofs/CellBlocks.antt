@@ -20,8 +20,10 @@ use Rattle.write_back.specs.declared.forms.Writer.TheVariants.{Dted}
 use Rattle.dted_records.specs.Written.{record_bytes, summed_bytes}
 use Rattle.dted_records.proofs.Encoded.{record_again}
 use Rattle.write_back.specs.Columns.{Cell, is_elevation, IsBegun, IsCell}
-use Rattle.write_back.specs.Forms.{IsSpot, needed_of}
-use Rattle.write_back.specs.Overlay.{line_key, IsBlockWritten, IsLine}
+use Rattle.write_back.specs.Forms.{needed_of}
+use Rattle.write_back.specs.Spots.{IsSpot}
+use Rattle.write_back.specs.Overlay.{line_key, IsLine}
+use Rattle.write_back.specs.Stores.{IsBlockWritten}
 use Rattle.write_back.specs.Pieces.{AreBytes}
 use Rattle.write_back.proofs.Blocks.{other_block, part_apart, range_same}
 use Rattle.write_back.proofs.RecordBytes.{elevations_of, record_size}

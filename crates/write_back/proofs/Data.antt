@@ -9,7 +9,8 @@ use Rattle.esri_hdr.specs.declared.header_parts.Layout.TheVariants.{Bil, Bip, Bs
 use Rattle.esri_hdr.specs.Head.{Head, IsHead, sample_len}
 use Rattle.interleaved_raw.specs.Raw.{position_by, position_of, sample_bytes, IsPlace}
 use Rattle.write_back.specs.declared.forms.Writer.TheVariants.{Raw}
-use Rattle.write_back.specs.Files.{HasSamples, IsTight, IsTightBy, band_by, column_by, line_by, raw_bytes}
+use Rattle.write_back.specs.Files.{IsTight, IsTightBy, band_by, column_by, line_by, raw_bytes}
+use Rattle.write_back.specs.Drafts.{HasSamples}
 use Rattle.write_back.proofs.Spelled.{spelled}
 use Rattle.write_back.proofs.Woven.{seen_sample}
 use Rattle.interleaved_raw.proofs.Order.{ends_within}

@@ -16,7 +16,8 @@ use Rattle.ascii_grid.specs.Row.{row_of, value_or_zero}
 use Rattle.ascii_grid.proofs.Again.{all_of, body_again}
 use Rattle.ascii_grid.proofs.RowReads.{body_values}
 use Rattle.write_back.specs.declared.rows.GridForm.{GridForm}
-use Rattle.write_back.specs.Grids.{front_of, lines_text, rows_in, grid_at, grid_in, HasRows}
+use Rattle.write_back.specs.Grids.{front_of, lines_text, grid_at, grid_in, HasRows}
+use Rattle.write_back.specs.Spots.{rows_in}
 use Rattle.write_back.specs.View.{Output, Rows, IsIn}
 use Rattle.write_back.specs.Overlay.{IsInside, IsOverlaid}
 use Rattle.write_back.specs.Files.{line_at, grid_text}

@@ -12,7 +12,8 @@ use Rattle.write_back.specs.declared.forms.Writer.{Writer}
 use Rattle.write_back.specs.declared.forms.Writer.TheVariants.{Raw, Hgt, Dted}
 use Rattle.write_back.specs.declared.rows.GridForm.{GridForm}
 use Rattle.write_back.specs.Columns.{Cell, cell_of}
-use Rattle.write_back.specs.Forms.{band_total, block_of, cut_of, needed_of, plane_of, spot_of, under, IsFormed, IsSpot}
+use Rattle.write_back.specs.Forms.{band_total, block_of, cut_of, needed_of, plane_of, spot_of, under, IsFormed}
+use Rattle.write_back.specs.Spots.{IsSpot}
 use Rattle.write_back.specs.Grids.{front_of, grid_in, HasRows}
 use Rattle.write_back.specs.Overlay.{overlay}
 use Rattle.write_back.specs.Pieces.{spot_place, AreBytes}

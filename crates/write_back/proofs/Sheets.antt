@@ -8,15 +8,19 @@ use Rattle.outside.specs.Outside.{Files}
 use Rattle.block_cache.specs.Entries.{PoolView, pool_view}
 use Rattle.write_back.specs.declared.forms.Writer.{Writer}
 use Rattle.write_back.specs.declared.forms.Writer.TheVariants.{Raw, Hgt, Dted}
-use Rattle.write_back.specs.Forms.{band_total, cut_of, pixel_sample, HasPixel, most_calls}
-use Rattle.write_back.specs.Overlay.{overlay, AreSame, IsOverlaid, IsWindow, Stays, WasMet}
-use Rattle.write_back.specs.State.{StoreState, AreMet, Changes, HasDraft, IsRight, IsSound, Serves, lines_met}
-use Rattle.write_back.specs.View.{Output, Blocks, Rows, SheetView, all_blocks, calls_of, columns_of, is_writable, shown_on, pixel_sample_in, AreWritable, Finishes, IsIn, IsMetOn, IsNext, Keeps, Meets, Puts}
-use Rattle.write_back.specs.Files.{block_bytes, grid_text, HasBytes, HasSamples, IsBlockForm, IsWholeOn}
+use Rattle.write_back.specs.Forms.{band_total, cut_of, pixel_sample, most_calls}
+use Rattle.write_back.specs.Spots.{HasPixel, rows_in}
+use Rattle.write_back.specs.Overlay.{overlay, IsOverlaid, WasMet}
+use Rattle.write_back.specs.Stores.{AreSame, IsWindow, Stays, StoreState, AreMet, Changes, Serves}
+use Rattle.write_back.specs.State.{HasDraft, IsRight, IsSound, lines_met}
+use Rattle.write_back.specs.View.{Output, Blocks, Rows, SheetView, all_blocks, calls_of, columns_of, is_writable, shown_on, pixel_sample_in, AreWritable, IsIn, IsMetOn, IsNext, Meets}
+use Rattle.write_back.specs.Served.{Finishes, Keeps, Puts}
+use Rattle.write_back.specs.Files.{block_bytes, grid_text, IsBlockForm, IsWholeOn}
+use Rattle.write_back.specs.Drafts.{HasBytes, HasSamples}
 use Rattle.write_back.proofs.Data.{data_is}
 use Rattle.write_back.proofs.Exact.{tile_is, cell_is}
 use Rattle.write_back.proofs.GridRows.{grid_is, rows_overlaid}
-use Rattle.write_back.specs.Grids.{HasRows, grid_in, rows_in}
+use Rattle.write_back.specs.Grids.{HasRows, grid_in}
 use Rattle.write_back.specs.declared.rows.GridForm.{GridForm}
 use Rattle.write_back.proofs.Published.{flushed_samples}
 use Rattle.write_back.proofs.Counting.{few_held}

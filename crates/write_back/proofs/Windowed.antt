@@ -6,7 +6,8 @@ use Rattle.geotransform.specs.declared.types.Rect.{Rect}
 use Rattle.outside.specs.Outside.{Files}
 use Rattle.write_back.specs.declared.fault.TargetFault.{TargetFault}
 use Rattle.write_back.specs.Overlay.{IsOverlaid}
-use Rattle.write_back.specs.View.{Output, Blocks, Rows, SheetView, window_blocks, calls_of, lines_after, shown_on, target_of, IsIn, IsNext, IsRightOn, IsSoundOn, Keeps, Puts, Shows}
+use Rattle.write_back.specs.View.{Output, Blocks, Rows, SheetView, window_blocks, calls_of, lines_after, shown_on, target_of, IsIn, IsNext, IsRightOn, IsSoundOn, Shows}
+use Rattle.write_back.specs.Served.{Keeps, Puts}
 use Rattle.write_back.specs.Files.{header_in, HasHeader, IsForm, IsTarget}
 
 right_after : (o : Output) (told told' : Option Files) (band : ℕ) (rect : Rect) (samples : List ℤ) (s n : SheetView) (done : Result (Unit {0}) TargetFault) → n.output ≡ s.output → OnOk done (Puts band rect samples told told' s n) → result_err done ≡ None → IsRightOn n.output told' n

@@ -5,7 +5,8 @@ ghost use Rattle.outside.specs.Causes.{HasCause};
 ghost use Rattle.outside.specs.Outside.{Appended};
 ghost use Rattle.ascii_grid.specs.Text.{row_text};
 ghost use Rattle.ascii_grid.specs.Values.{is_value};
-ghost use Rattle.write_back.specs.Grids.{HasRows, rows_in};
+ghost use Rattle.write_back.specs.Grids.{HasRows};
+ghost use Rattle.write_back.specs.Spots.{rows_in};
 
 use crate::TargetFault;
 use ascii_grid::write_row;

@@ -3,9 +3,10 @@ ghost use Rattle.std.specs.Prelude.{◌≡◌, ◌<◌, ◌≤◌, ◌+◌, ◌*
 ghost use Rattle.std.specs.List.{list_all};
 ghost use Rattle.outside.specs.Causes.{HasCause};
 ghost use Rattle.write_back.specs.View.{bands_of, columns_of, is_writable, rows_of, AreWritable, IsNext, IsSoundOn};
-ghost use Rattle.write_back.specs.View.{IsRightOn, Puts};
-ghost use Rattle.write_back.specs.Served.{FinishesIn, KeepsIn};
-ghost use Rattle.write_back.specs.Files.{HasBytes, IsForm};
+ghost use Rattle.write_back.specs.View.{IsRightOn};
+ghost use Rattle.write_back.specs.Served.{Puts, FinishesIn, KeepsIn};
+ghost use Rattle.write_back.specs.Files.{IsForm};
+ghost use Rattle.write_back.specs.Drafts.{HasBytes};
 
 use crate::TargetFault;
 use crate::rows::RowStore;

@@ -15,8 +15,8 @@ ghost use Rattle.write_back.specs.Columns.{cell_of};
 ghost use Rattle.write_back.specs.View.{Blocks, Rows, all_blocks, bands_of, window_blocks, calls_of, columns_of};
 ghost use Rattle.write_back.specs.View.{is_writable, lines_after, rows_of, AreWritable, IsNext, IsPooled};
 ghost use Rattle.write_back.specs.View.{MeetsAll, Shows};
-ghost use Rattle.write_back.specs.Files.{target_files, AreRawDrafts, IsTarget, IsTight, Publishes};
-ghost use Rattle.write_back.specs.Plans.{IsNew};
+ghost use Rattle.write_back.specs.Files.{target_files, IsTarget, IsTight, Publishes};
+ghost use Rattle.write_back.specs.Drafts.{AreRawDrafts, IsNew};
 ghost use Rattle.write_back.specs.Served.{IsLeftIn};
 ghost use Rattle.band_blocks.specs.Blocks.{most_blocks};
 

@@ -3,7 +3,8 @@ use Rattle.std.proofs.lemmas.List.{length-take-le, length-drop}
 use Rattle.outside.specs.Outside.{Appended}
 use Rattle.ascii_grid.specs.Text.{row_text}
 use Rattle.ascii_grid.specs.Values.{is_value}
-use Rattle.write_back.specs.Grids.{HasRows, rows_in}
+use Rattle.write_back.specs.Grids.{HasRows}
+use Rattle.write_back.specs.Spots.{rows_in}
 use Rattle.write_back.proofs.GridRows.{row_more, rows_snoc, slice_all}
 use Rattle.write_back.proofs.States.{row_fits}
 use Rattle.write_back.proofs.rows.RowStore.put_lines.Goals as goal

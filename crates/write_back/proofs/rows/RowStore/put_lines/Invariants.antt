@@ -1,5 +1,6 @@
 use Rattle.std.proofs.Common.{◌≡◌, ◌≤◌, ◌+◌, ◌++◌, List, ℤ}
-use Rattle.write_back.specs.Grids.{HasRows, rows_in}
+use Rattle.write_back.specs.Grids.{HasRows}
+use Rattle.write_back.specs.Spots.{rows_in}
 use Rattle.write_back.proofs.rows.RowStore.put_lines.Given as goal
 
 abbrev pub invariant-loop-row : goal.invariant-loop-row
