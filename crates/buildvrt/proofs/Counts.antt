@@ -1,17 +1,17 @@
 -- How many bands and sources a mosaic has.
 use Rattle.std.proofs.Common.{◌≡◌, ◌∙◌, sym, ap, ℕ, zero, suc, ◌+◌, ◌*◌, ◌-◌, ◌<◌, ◌≤◌, Bool, true, false, ◌&&◌, List, [], ◌∷◌, ◌++◌, length, refl, arith, Option, Some, None, option_map, slice_get, nat_le, map, length-append, take, get_or, Ok, Err}
 use Rattle.std.specs.Prelude.{if◌then◌else◌}
+use Rattle.std.specs.Prelude.{ℤ, unsigned_abs, ◌^◌}
 use Rattle.std.specs.List.{All}
+use Rattle.std.specs.List.{filter_map, list_all, cons_option, AllByRecursion, range_with_len}
 use Rattle.std.proofs.lemmas.List.{take_more}
 use Rattle.std.proofs.lemmas.List.Elements.{recursion_from_All}
+use Rattle.std.proofs.lemmas.List.Elements.{filter_map-append}
 use Rattle.buildvrt.specs.declared.faults.BuildFault.TheVariants.{Limit}
-use Rattle.std.specs.Prelude.{ℤ, unsigned_abs, ◌^◌}
 use Rattle.geotransform.specs.Types.{is_in}
 use Rattle.geotransform.specs.declared.types.PixelType.{PixelType}
 use Rattle.geotransform.proofs.Ranges.{is_near}
-use Rattle.std.specs.List.{filter_map, list_all, cons_option, AllByRecursion, range_with_len}
 use Rattle.std.proofs.lemmas.List.FromFn.{length-range_with_len}
-use Rattle.std.proofs.lemmas.List.Elements.{filter_map-append}
 use Rattle.std.proofs.lemmas.Bool.Decides.{nat_tests}
 use Rattle.std.proofs.lemmas.List.Sums.{sum_by-cons}
 use Rattle.vrt_profile.specs.Values.{SourceValue, BandValue, Rectangle, source_count}
@@ -20,7 +20,8 @@ use Rattle.catalog.specs.declared.kind.BandHead.{BandHead}
 use Rattle.buildvrt.specs.Options.{Options}
 use Rattle.buildvrt.specs.Judging.{band_of, has_bands, numbers_or_all, taken_bands}
 use Rattle.buildvrt.specs.Rectangles.{PatchValue, IsPatch}
-use Rattle.buildvrt.specs.Bands.{source_of, source_in, band_from, band_with, own_band, common_bands, separate_bands, bands_within, is_few, shown_count, FitsDocument}
+use Rattle.buildvrt.specs.Bands.{source_of, source_in, band_from, band_with, own_band, common_bands, separate_bands, bands_within, is_few, shown_count}
+use Rattle.buildvrt.specs.Limits.{FitsDocument}
 
 -- each input that isn't left out gives a source
 sources_by : (f : Rectangle → SourceValue) (r : Option Rectangle) (ss : List SourceValue) (rs : List Rectangle) → length ss ≡ length rs → length (cons_option (option_map f r) ss) ≡ length (cons_option r rs)

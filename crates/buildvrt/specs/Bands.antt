@@ -1,9 +1,8 @@
 -- The bands of a mosaic and their sources.
-use Rattle.std.specs.Prelude.{ℕ, ℤ, ◌<◌, ◌≤◌, Bool, ◌&&◌, nat_le, List, [], ◌∷◌, length, Option, None, Some, option_map}
-use Rattle.std.specs.Prelude.{Result, Ok, Err, if◌then◌else◌}
+use Rattle.std.specs.Prelude.{ℕ, ℤ, Bool, ◌&&◌, nat_le, List, [], ◌∷◌, length, Option, None, Some, option_map, Result}
+use Rattle.std.specs.Prelude.{Ok, Err, if◌then◌else◌}
 use Rattle.std.specs.List.{filter_map}
 use Rattle.geotransform.specs.Types.{when_in}
-use Rattle.geotransform.specs.declared.types.PixelType.{PixelType}
 use Rattle.vrt_profile.specs.Values.{SourceValue, BandValue, Rectangle, source_count, most_sources}
 use Rattle.vrt_profile.specs.Cover.{whole}
 use Rattle.vrt_profile.specs.Built.{plain_source}
@@ -91,9 +90,3 @@ bands_within bands = if is_few (length bands) (source_count bands) then Ok bands
 -- how many inputs aren't left out
 abbrev pub shown_count : List PatchValue → ℕ
 shown_count patches = length (filter_map (λ p. p.shown) patches)
-
--- bands that a document may have
-pub record FitsDocument (bands : List BandValue) : Type 0 where
-  pub some : 0 < length bands
-  pub few : length bands ≤ most_bands
-  pub sources : source_count bands ≤ most_sources

@@ -9,9 +9,10 @@ ghost use Rattle.catalog.specs.Nodata.{IsNodataWord};
 ghost use Rattle.buildvrt.specs.Judging.{has_bands, band_of, taken_bands};
 ghost use Rattle.buildvrt.specs.Rectangles.{IsPatch};
 ghost use Rattle.buildvrt.specs.Mosaic.{IsMemory};
-ghost use Rattle.buildvrt.specs.Bands.{source_nodata, wanted_nodata, band_nodata, source_of};
-ghost use Rattle.buildvrt.specs.Bands.{source_in, band_from, band_with, common_bands, own_band, separate_bands};
-ghost use Rattle.buildvrt.specs.Bands.{all_bands, bands_within, shown_count, is_few, FitsDocument};
+ghost use Rattle.buildvrt.specs.Bands.{source_nodata, wanted_nodata, band_nodata, source_of, source_in, band_from};
+ghost use Rattle.buildvrt.specs.Bands.{band_with, common_bands, own_band, separate_bands, all_bands, bands_within};
+ghost use Rattle.buildvrt.specs.Bands.{shown_count, is_few};
+ghost use Rattle.buildvrt.specs.Limits.{FitsDocument};
 ghost use Rattle.catalog.specs.Dataset.{most_datasets};
 
 use crate::faults::BuildFault;

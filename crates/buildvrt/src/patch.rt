@@ -5,8 +5,9 @@ ghost use Rattle.std.specs.List.{All};
 ghost use Rattle.lists_and_answers.specs.Answers.{Gives};
 ghost use Rattle.buildvrt.specs.Mosaic.{IsMemory};
 ghost use Rattle.geotransform.specs.Geo.{IsNear};
-ghost use Rattle.buildvrt.specs.Rectangles.{rectangle_of, meets_side, meets, is_offset};
-ghost use Rattle.buildvrt.specs.Rectangles.{shown_at, patch_of, patches_of, pixel_limit, IsPixelRect, IsPatch};
+ghost use Rattle.buildvrt.specs.Rectangles.{rectangle_of, meets_side, meets, is_offset, shown_at, patch_of, patches_of};
+ghost use Rattle.buildvrt.specs.Rectangles.{IsPatch};
+ghost use Rattle.buildvrt.specs.Limits.{pixel_limit, IsPixelRect};
 ghost use Rattle.geotransform.specs.Limits.{farthest, most_side};
 
 use crate::faults::BuildFault;
