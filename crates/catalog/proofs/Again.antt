@@ -16,7 +16,8 @@ use Rattle.catalog.specs.declared.faults.LimitKind.TheVariants as limits
 use Rattle.catalog.specs.declared.faults.WalkFault.{WalkFault}
 use Rattle.catalog.specs.declared.faults.WalkFault.TheVariants.{Cycle, TooDeep, Limit}
 use Rattle.catalog.specs.declared.links.Link.{Link}
-use Rattle.catalog.specs.Drivers.{Dataset, content_head, content_kind, driver_kind}
+use Rattle.catalog.specs.Drivers.{Dataset, content_head}
+use Rattle.catalog.specs.OwnFiles.{content_kind, driver_kind}
 use Rattle.catalog.specs.Mosaics.{sources_of, source_name}
 use Rattle.catalog.specs.Heads.{kind_in, resolved}
 use Rattle.catalog.specs.Walk.{number_of, dataset_named, sources_in, unless_on, room_for, again_sources, again_below, again_step, again, IsDataset}

@@ -12,7 +12,8 @@ use Rattle.catalog.specs.declared.faults.WalkFault.TheVariants.{Absent, NotRecog
 use Rattle.catalog.specs.declared.faults.Bad.{Bad}
 use Rattle.catalog.specs.declared.faults.Bad.TheVariants.{Hdr}
 use Rattle.catalog.specs.Outcomes.{IsOutside, IsMemory}
-use Rattle.catalog.specs.Heads.{file_in, header_in, named, IsOwnFault, IsOfFile, IsOfHead}
+use Rattle.catalog.specs.Heads.{file_in, header_in, named, IsOwnFault, IsOfHead}
+use Rattle.catalog.specs.OwnFiles.{IsOfFile}
 
 -- an answer that no definition gives
 pub outside_fails : {Y : Type 0} (f : WalkFault) (d : Result Y WalkFault) → IsOutside f → IsOutside f ⊎ (d ≡ Err f)

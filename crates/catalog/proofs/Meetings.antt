@@ -18,7 +18,8 @@ use Rattle.catalog.specs.Dataset.{DatasetHead}
 use Rattle.catalog.specs.Drivers.{Dataset, content_head}
 use Rattle.catalog.specs.Mosaics.{sources_of}
 use Rattle.catalog.specs.Outcomes.{IsOutside, IsMemory}
-use Rattle.catalog.specs.Heads.{kind_in, kind_of, dataset_by, IsOfFile}
+use Rattle.catalog.specs.Heads.{kind_in, kind_of, dataset_by}
+use Rattle.catalog.specs.OwnFiles.{IsOfFile}
 use Rattle.catalog.proofs.Headers.{never_unknown, owns_fault}
 use Rattle.catalog.specs.Walk.{number_of, room_for, sources_in, visit, visit_sources, IsDataset, IsWalked}
 use Rattle.catalog.specs.Readings.{calls_to_open}
