@@ -30,10 +30,11 @@ use Rattle.catalog.proofs.PixelLaws.{file_is_sample}
 use Rattle.catalog.proofs.Walked.{dataset_kept}
 use Rattle.band_blocks.specs.declared.key.BlockKey.{BlockKey}
 use Rattle.band_blocks.specs.declared.key.PixelKey.{PixelKey}
-use Rattle.band_blocks.specs.Contents.{driver_calls, content_calls, calls_of, most_calls, sample_type_of}
+use Rattle.band_blocks.specs.Contents.{driver_calls, content_calls, calls_of, most_calls}
+use Rattle.band_blocks.specs.Loaded.{sample_type_of, HasSample, place_of, bytes_per_sample}
 use Rattle.band_blocks.specs.Keys.{IsKeyOf, IsPixelKeyOf}
 use Rattle.band_blocks.specs.Open.{AreGood}
-use Rattle.band_blocks.specs.Samples.{HasPlaces, HasSample, IsDirect, IsOfType, place_of, bytes_per_sample}
+use Rattle.band_blocks.specs.Samples.{HasPlaces, IsDirect, IsOfType}
 use Rattle.band_blocks.proofs.Corners.{number_below}
 use Rattle.band_blocks.proofs.Loads.{told_by, told_kind, some_one, driver_in, file_of, long_enough, calls_within}
 use Rattle.band_blocks.proofs.Opened.{good_found, some_file}
