@@ -20,7 +20,7 @@ use Rattle.write_back.specs.Plans.{output_of}
 use Rattle.write_back.specs.View.{Output, Blocks, Rows, SheetView, TargetView, bands_of, columns_of, lines_after, rows_of, sheet_in, shown, AreWritable, IsIn, IsMetOn, IsNext, Meets, MeetsAll, Shows}
 use Rattle.write_back.proofs.Outputs.{has_size, sample_held}
 use Rattle.strip_copies.specs.Copies.{lines_rect, IsHeldIn}
-use Rattle.output_copies.specs.Copying.{AreMet, IsAtLine, IsCopied, IsFilled}
+use Rattle.output_copies.specs.Filled.{AreMet, IsAtLine, IsCopied, IsFilled}
 use Rattle.output_copies.specs.Steps.{files_by, raster_of}
 use Rattle.output_copies.proofs.Alike.{files_same}
 
