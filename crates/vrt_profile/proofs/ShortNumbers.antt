@@ -17,8 +17,8 @@ use Rattle.lists_and_answers.specs.Texts.{is_white}
 use Rattle.geotransform.specs.Decimal.{number, scaled, signed, sign_at, digits_at, fraction_at, exponent_of, Decimal, parts_of, places_of, exact, whole_of, near_at, magnitude, magnitude_at}
 use Rattle.geotransform.proofs.Numbers.{number_short, number-append, all_taken}
 use Rattle.vrt_markup.specs.Items.{option_case}
-use Rattle.vrt_profile.specs.Fields.{length_before, cut_by, cut_at, first_piece, trim, trim_end, near_by, near_number, pair_of}
-use Rattle.vrt_profile.specs.Fronts.{is_inner, is_of_key, DigitRun, DigitsFront, FractionFront, DecimalFront, MicrosFront, pair_with, PairFront}
+use Rattle.vrt_profile.specs.Fields.{length_before, cut_by, cut_at, trim, trim_end, near_by, near_number, pair_of}
+use Rattle.vrt_profile.specs.Fronts.{first_piece, is_inner, is_of_key, DigitRun, DigitsFront, FractionFront, DecimalFront, MicrosFront, pair_with, PairFront}
 use Rattle.vrt_profile.specs.declared.rectangle.LutPair.{LutPair}
 use Rattle.vrt_profile.specs.Values.{million}
 use Rattle.vrt_profile.proofs.Rules.{signed_size}

@@ -6,8 +6,10 @@ use Rattle.geotransform.specs.declared.types.PixelType.{PixelType}
 use Rattle.vrt_profile.specs.Values.{Rectangle, SourceValue, BandValue, DocumentValue}
 use Rattle.vrt_profile.specs.Means.{text_in, File, SourceParts, source_end, BandParts, band_end, DatasetParts}
 use Rattle.vrt_profile.specs.Means.{dataset_end}
+use Rattle.vrt_profile.specs.Document.{means}
 use Rattle.vrt_markup.specs.declared.fault.VrtFault.{VrtFault}
 use Rattle.vrt_markup.specs.declared.fault.VrtFault.TheVariants.{BadNumber, Unsupported}
+use Rattle.vrt_markup.specs.Tree.{markup_of}
 
 -- SourceFilename, by its flag, its text and a child of it
 abbrev pub file_when : Result Bool VrtFault → Result (List ℕ) VrtFault → Result File VrtFault
@@ -62,3 +64,7 @@ dataset_by w h derived blank parts = do
   plain ← wants (not derived && blank) Unsupported
   all ← parts
   dataset_end w h all
+
+-- the document of a text that is UTF-8
+abbrev pub markup_means : List ℕ → Result DocumentValue VrtFault
+markup_means bytes = markup_of bytes >>= means

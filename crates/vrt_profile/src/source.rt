@@ -13,7 +13,8 @@ ghost use Rattle.vrt_profile.specs.Values.{IsSource, IsRectangle, IsLut, scale_l
 ghost use Rattle.vrt_markup.specs.Views.{plain_text, tag_view};
 ghost use Rattle.vrt_markup.specs.Kept.{Gives, kept_of};
 ghost use Rattle.vrt_profile.specs.SourceViews.{source_view, no_source};
-ghost use Rattle.vrt_profile.specs.Scaling.{IsScaling, no_scaling, scaling_of};
+ghost use Rattle.vrt_profile.specs.Scaling.{no_scaling};
+ghost use Rattle.vrt_profile.specs.ScalingViews.{IsScaling, scaling_of};
 ghost use Rattle.geotransform.specs.Limits.{most_bands, whole_limit};
 
 use crate::document::{Source, Sources};
