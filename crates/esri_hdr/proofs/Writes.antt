@@ -3,7 +3,8 @@ use Rattle.std.proofs.Common.{◌≡◌, ℕ, ◌-◌, List, [], ◌∷◌, ◌+
 use Rattle.std.specs.Prelude.{OnErr}
 use Rattle.lists_and_answers.specs.Growth.{KeepsFront}
 use Rattle.geotransform.proofs.Written.{keeps_append, keeps_then}
-use Rattle.esri_hdr.specs.Text.{name_of, content_of, text_of, AppendsLines}
+use Rattle.esri_hdr.specs.Text.{name_of, content_of, text_of}
+use Rattle.esri_hdr.specs.Steps.{AppendsLines}
 
 text-append : (fs gs : List (ℕ × List ℕ)) → text_of (fs ++ gs) ≡ text_of fs ++ text_of gs
 text-append [] gs = refl

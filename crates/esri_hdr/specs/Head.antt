@@ -1,7 +1,7 @@
 -- The head that a header's text gives, or its first fault.
-use Rattle.std.specs.Prelude.{◌≡◌, ◌<◌, ◌≤◌, ◌⊎◌, IfSome, ℕ, ℤ, pos, neg_ℤ, ◌+ℤ◌, ◌-ℤ◌, ◌*ℤ◌, ◌*◌, ◌/◌, Bool, true}
-use Rattle.std.specs.Prelude.{ok_or, false, ◌&&◌, List, length, Option, Some, None, Result, Ok, Err, nat_lt}
-use Rattle.std.specs.Prelude.{if◌then◌else◌, unsigned_abs, int_lt}
+use Rattle.std.specs.Prelude.{◌≡◌, ◌<◌, ◌≤◌, IfSome, ℕ, ℤ, pos, neg_ℤ, ◌+ℤ◌, ◌-ℤ◌, ◌*ℤ◌, ◌*◌, ◌/◌, Bool, true, ok_or}
+use Rattle.std.specs.Prelude.{false, ◌&&◌, List, length, Option, Some, None, Result, Ok, Err, nat_lt, if◌then◌else◌}
+use Rattle.std.specs.Prelude.{unsigned_abs, int_lt}
 use Rattle.std.specs.Option.{option_map}
 use Rattle.lists_and_answers.specs.Answers.{◌>>=◌}
 use Rattle.geotransform.specs.Decimal.{ticks_of, whole_of, IsRead}
@@ -178,14 +178,6 @@ pub record IsHead (h : Head) : Type 0 where
   })
   pub nodata : IfSome h.nodata (λ n. is_in h.kind n ≡ true)
   pub geo : IfSome h.geo GeoFits
-
--- the rules of what the first keys say
-pub record IsShape (s : Shape) : Type 0 where
-  pub width : IsSide s.w
-  pub height : IsSide s.h
-  pub bands : (0 < s.bands) × (s.bands ≤ most_bands)
-  pub skip : s.skip ≤ longest_gap
-  pub bits : (s.bits ≡ 8) ⊎ ((s.bits ≡ 16) ⊎ ((s.bits ≡ 32) ⊎ (s.bits ≡ 64)))
 
 -- half of a size of a pixel, which is above 0 and even
 abbrev pub half_of : ℤ → ℤ

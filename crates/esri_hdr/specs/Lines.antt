@@ -1,8 +1,5 @@
 -- The lines of a header, their keys and values.
 use Rattle.std.specs.Prelude.{ℕ, Bool, ◌||◌, List, [], ◌∷◌, length, Option, Some, None, ◌==◌, if◌then◌else◌}
-use Rattle.std.specs.Prelude.{slice_index_or}
-use Rattle.std.specs.Option.{option_map}
-use denote.Bor.{Bor}
 use Rattle.std.specs.List.{slice_split, position}
 use Rattle.lists_and_answers.specs.Bytes.{line_feed, carriage_return}
 use Rattle.lists_and_answers.specs.Texts.{same_letters, token_at}
@@ -59,7 +56,3 @@ last_of text key = last_in key (lines text)
 -- the value of each key
 abbrev pub Values : Type 0
 Values = ℕ → Option (List ℕ)
-
--- the values that were found, by the numbers of their keys
-abbrev pub lookup : List (Option (Bor (List ℕ))) → Values
-lookup found key = option_map (λ v. v.now) (slice_index_or found key None)

@@ -1,5 +1,5 @@
 -- The text of a header that is written.
-use Rattle.std.specs.Prelude.{◌≡◌, ℕ, ℤ, ◌-◌, ◌*◌, Bool, List, [], ◌∷◌, ◌++◌, length, Option, Some, None, if◌then◌else◌}
+use Rattle.std.specs.Prelude.{ℕ, ℤ, ◌-◌, ◌*◌, Bool, List, [], ◌∷◌, ◌++◌, length, Option, Some, None, if◌then◌else◌}
 use Rattle.std.specs.Prelude.{codes, get_or, replicate}
 use Rattle.std.specs.Fmt.{decimal, signed_decimal}
 use Rattle.lists_and_answers.specs.Bytes.{line_feed, space_byte}
@@ -78,7 +78,3 @@ fields_of h = fields_from h h.nodata h.geo
 -- the text that is written of a head
 unfoldable pub hdr_text : Head → List ℕ
 hdr_text h = text_of (fields_of h)
-
--- the new bytes are the old ones and these lines
-pub record AppendsLines (old new : List ℕ) (fields : List (ℕ × List ℕ)) : Type 0 where
-  pub lines : new ≡ old ++ text_of fields

@@ -4,7 +4,8 @@ ghost use Rattle.std.specs.Option.{option_map};
 ghost use Rattle.std.specs.List.{before_first, after_first, position_or_len, position};
 ghost use Rattle.lists_and_answers.specs.Texts.{same_letters};
 ghost use Rattle.esri_hdr.specs.Keys.{names};
-ghost use Rattle.esri_hdr.specs.Lines.{is_line_end, key_of, entry_at, last_of, lookup};
+ghost use Rattle.esri_hdr.specs.Lines.{is_line_end, key_of, entry_at, last_of};
+ghost use Rattle.esri_hdr.specs.Steps.{lookup};
 
 use crate::keys::NAMES;
 use lists_and_answers::{same_letters, token_at};
