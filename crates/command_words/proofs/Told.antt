@@ -12,7 +12,8 @@ use Rattle.command_words.specs.declared.spoken.WordPlace.{WordPlace}
 use Rattle.command_words.specs.declared.spoken.WordFault.{WordFault}
 use Rattle.command_words.specs.Options.{option_of, value_count}
 use Rattle.command_words.specs.Said.{option_said}
-use Rattle.command_words.specs.Uses.{Use, uses_from, taken_by, said_by, behind_use, judged, with_said, spoken_of, spoken_in}
+use Rattle.command_words.specs.Uses.{Use, uses_from, taken_by, said_by, behind_use, judged, spoken_of, spoken_in}
+use Rattle.command_words.specs.Gathered.{with_said}
 use Rattle.command_words.specs.Words.{IsMemory}
 
 -- one use more

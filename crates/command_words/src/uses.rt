@@ -5,8 +5,8 @@ ghost use Rattle.lists_and_answers.specs.Answers.{Gives};
 ghost use Rattle.command_words.specs.Options.{option_of};
 ghost use Rattle.command_words.specs.Uses.{may_be_negative, is_positional, source_said, output_said, input_said};
 ghost use Rattle.command_words.specs.Uses.{x_said, y_said, tile_said, positional_of, placed_said, said_by, taken_by};
-ghost use Rattle.command_words.specs.Uses.{behind_use, with_mosaic, with_said, wanted_of, mosaic_of, spoken_of};
-ghost use Rattle.command_words.specs.Uses.{spoken_in};
+ghost use Rattle.command_words.specs.Uses.{behind_use, wanted_of, mosaic_of, spoken_of, spoken_in};
+ghost use Rattle.command_words.specs.Gathered.{with_mosaic, with_said};
 ghost use Rattle.command_words.specs.Words.{IsMemory};
 ghost use Rattle.command_words.specs.declared.spoken.Said.TheVariants as said;
 
