@@ -11,7 +11,8 @@ use Rattle.translate_plan.specs.declared.band.OutBand.{OutBand}
 use Rattle.translate_plan.specs.Options.{Options, IsOptions}
 use Rattle.translate_plan.specs.Window.{asked_in, window_in, inside_in, sides_of, size_in}
 use Rattle.translate_plan.specs.Fits.{count_in, geo_in, place_in}
-use Rattle.translate_plan.specs.Bands.{all_known, AreKnown, count_of, out_band_at, band_by, is_bare, asked_bands, out_bands, source_number_at}
+use Rattle.translate_plan.specs.Bands.{all_known, count_of, out_band_at, band_by, is_bare, asked_bands, out_bands, source_number_at}
+use Rattle.translate_plan.specs.Limits.{AreKnown}
 use Rattle.translate_plan.specs.Plan.{Planned, fits_in, plan_of}
 use Rattle.translate_plan.proofs.Kept.{are_known}
 

@@ -24,10 +24,11 @@ use Rattle.translate_plan.specs.declared.band.OutBand.{OutBand}
 use Rattle.translate_plan.specs.declared.window.Asked.{Asked}
 use Rattle.translate_plan.specs.declared.window.Window.{Window}
 use Rattle.translate_plan.specs.Options.{Options, IsOptions}
-use Rattle.translate_plan.specs.Window.{asked_in, is_empty, is_large, is_far, window_in, inside_in, sides_of, size_in, IsWindow}
+use Rattle.translate_plan.specs.Window.{asked_in, is_empty, is_large, is_far, window_in, inside_in, sides_of, size_in}
+use Rattle.translate_plan.specs.Limits.{IsWindow, AreKnown}
 use Rattle.geotransform.specs.Limits.{farthest}
 use Rattle.translate_plan.specs.Fits.{own_nodata, is_single, count_in, geo_in, place_in, holds_geo, holds_name, takes_kind, is_int16, holds_kinds, takes_number, takes_nodata}
-use Rattle.translate_plan.specs.Bands.{all_known, AreKnown, count_of, band_type_of, nodata_of, out_band_at, band_by, bands_by, same_nodata, agree, is_bare, asked_bands, out_bands, source_band, source_number_at}
+use Rattle.translate_plan.specs.Bands.{all_known, count_of, band_type_of, nodata_of, out_band_at, band_by, bands_by, same_nodata, agree, is_bare, asked_bands, out_bands, source_band, source_number_at}
 use Rattle.translate_plan.proofs.Rounded.{places_kept}
 use Rattle.translate_plan.specs.Plan.{Planned, fits, fits_in, plan_of, planned_by, IsOutBand, IsAlike, BandsHold, IsPlan}
 

@@ -1,6 +1,6 @@
 -- The bands of an output.
-use Rattle.std.specs.Prelude.{◌≤◌, ℕ, ℤ, ◌-◌, ◌==◌, slice_index, Bool, true, false, not, List, [], ◌∷◌, length, map}
-use Rattle.std.specs.Prelude.{All, Option, Some, None, Result, Ok, Err, nat_lt, if◌then◌else◌}
+use Rattle.std.specs.Prelude.{ℕ, ℤ, ◌-◌, ◌==◌, slice_index, Bool, true, false, not, List, [], ◌∷◌, length, map, Option}
+use Rattle.std.specs.Prelude.{Some, None, Result, Ok, Err, nat_lt, if◌then◌else◌}
 use Rattle.std.specs.Option.{unwrap_or}
 use Rattle.std.specs.List.{range_with_len, list_all}
 use Rattle.geotransform.specs.Types.{when_in}
@@ -115,10 +115,6 @@ asked_bands o h = bands_by false o h
 -- the output's bands as they are
 abbrev pub out_bands : Options → DatasetHead → List OutBand
 out_bands o h = bands_by (is_bare o.driver (asked_bands o h)) o h
-
--- no number is past the source's bands
-pub record AreKnown (bands : List ℕ) (count : ℕ) : Type 0 where
-  pub each : All (λ b. b ≤ count) bands
 
 -- a band that stands for none
 abbrev pub no_out_band : OutBand
