@@ -98,11 +98,11 @@ abbrev sources_of : BandParts → Result BandValue VrtFault → List SourceValue
 sources_of p (Ok b) = b.sources
 sources_of p (Err e) = p.sources
 
-band_by_ok : (kind : Result PixelType VrtFault) (placed sourced blank : Bool) (parts : Result BandParts VrtFault) (b : BandValue) → band_by kind placed sourced blank parts ≡ Ok b → (p : BandParts) × (parts ≡ Ok p) × (p.sources ≡ b.sources)
-band_by_ok kind placed sourced blank parts b h =
+band_by_ok : (kind : Result PixelType VrtFault) (placed sourced white : Bool) (parts : Result BandParts VrtFault) (b : BandValue) → band_by kind placed sourced white parts ≡ Ok b → (p : BandParts) × (parts ≡ Ok p) × (p.sources ≡ b.sources)
+band_by_ok kind placed sourced white parts b h =
     let k = bind_ok kind _ b h in
     let place = bind_ok (wants placed BadNumber) _ b k.2 in
-    let plain = bind_ok (wants (sourced && blank) Unsupported) _ b place.2 in
+    let plain = bind_ok (wants (sourced && white) Unsupported) _ b place.2 in
     let p = bind_ok parts (band_end k.0) b plain.2 in
     (p.0, p.1, ap (λ (r : Result BandValue VrtFault). sources_of p.0 r) p.2)
 

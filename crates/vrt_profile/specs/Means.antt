@@ -124,7 +124,7 @@ rect_of tag inside = do
   y ← offset_in (attribute (codes "yOff") tag.pairs)
   w ← size_in (attribute (codes "xSize") tag.pairs)
   h ← size_in (attribute (codes "ySize") tag.pairs)
-  blank ← wants (all_white inside) Unsupported
+  white ← wants (all_white inside) Unsupported
   bare ← over no_child true inside
   Ok (record { x = x; y = y; w = w; h = h })
 

@@ -220,13 +220,13 @@ fn band_by(
     seen: Seen,
     parts: BandParts,
 ) -> Result<VrtBand, VrtFault>
-    ensures band { result ≡ band_by kind placed sourced seen.blank (kept_of parts seen.kept) }
+    ensures band { result ≡ band_by kind placed sourced seen.white (kept_of parts seen.kept) }
 {
     let kind = kind?;
     if !placed {
         return Err(VrtFault::BadNumber);
     }
-    if !(sourced && seen.blank) {
+    if !(sourced && seen.white) {
         return Err(VrtFault::Unsupported);
     }
     match seen.kept {

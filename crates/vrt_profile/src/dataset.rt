@@ -248,11 +248,11 @@ fn dataset_by(
 ) -> Result<Document, VrtFault>
     requires w { IfOk w (λ n. (0 < n) × (n ≤ most_side)) }
     requires h { IfOk h (λ n. (0 < n) × (n ≤ most_side)) }
-    ensures document { result ≡ dataset_by w h derived seen.blank (kept_of parts seen.kept) }
+    ensures document { result ≡ dataset_by w h derived seen.white (kept_of parts seen.kept) }
 {
     let w = w?;
     let h = h?;
-    if derived || !seen.blank {
+    if derived || !seen.white {
         return Err(VrtFault::Unsupported);
     }
     match seen.kept {

@@ -464,10 +464,10 @@ fn push_seen(
     sources: &mut Sources,
 ) -> Result<Result<(), VrtFault>, VrtFault>
     ensures pushed { Gives (λ k. kept_of sources.new k) result (Ok (one_more sources.old
-        (source_by complex near seen.blank (kept_of (source_view parts.old) seen.kept)))) }
+        (source_by complex near seen.white (kept_of (source_view parts.old) seen.kept)))) }
     ensures rules { All IsSource sources.old → All IsSource sources.new }
 {
-    if !(near && seen.blank) {
+    if !(near && seen.white) {
         return Ok(Err(VrtFault::Unsupported));
     }
     match seen.kept {
