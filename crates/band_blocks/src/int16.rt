@@ -7,7 +7,7 @@ ghost use Rattle.geotransform.specs.declared.types.PixelType.TheVariants.{Int16}
 ghost use Rattle.dted_records.specs.Head as dted;
 ghost use Rattle.dted_records.specs.Places.{record_len, record_of};
 ghost use Rattle.dted_records.specs.Records.{dted_at, elevation, elevation_in, point_of, two_at};
-ghost use Rattle.hgt_tiles.specs.Samples.{hgt_at, item_of, row_bytes, row_of, sample_bytes};
+ghost use Rattle.hgt_tiles.specs.Samples.{hgt_at, item_at, row_bytes, row_of, sample_bytes};
 ghost use Rattle.lists_and_answers.specs.Places.{StandsAt};
 ghost use Rattle.band_blocks.specs.Blocks.{AreIn};
 
@@ -70,7 +70,7 @@ pub(crate) fn decode_elevations(head: &DtedHead, bytes: &[u8], cells: &mut [i16]
 // The sample of a tile at a place of its bytes.
 fn item_at(bytes: &[u8], i: usize) -> i16
     requires { i * 2 + 2 ≤ length bytes.now }
-    ensures value { result ≡ item_of bytes.now i }
+    ensures value { result ≡ item_at bytes.now i }
     ensures within { is_in Int16 result ≡ true }
 {
     let at = i * 2;

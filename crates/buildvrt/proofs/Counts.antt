@@ -18,7 +18,7 @@ use Rattle.vrt_profile.specs.Values.{SourceValue, BandValue, Rectangle, source_c
 use Rattle.catalog.specs.Dataset.{DatasetHead, IsDatasetHead}
 use Rattle.catalog.specs.declared.kind.BandHead.{BandHead}
 use Rattle.buildvrt.specs.Options.{Options}
-use Rattle.buildvrt.specs.Judging.{band_of, has_bands, numbers_or_all, taken_bands}
+use Rattle.buildvrt.specs.Judging.{numbered_band, has_bands, numbers_or_all, taken_bands}
 use Rattle.buildvrt.specs.Rectangles.{PatchValue, IsPatch}
 use Rattle.buildvrt.specs.Bands.{source_of, source_in, band_from, band_with, own_band, common_bands, separate_bands, bands_within, is_few, shown_count}
 use Rattle.buildvrt.specs.Limits.{FitsDocument}
@@ -38,7 +38,7 @@ there [] k h = absurd (omega arith)
 there (b ∷ bs) zero h = (b, refl)
 there (b ∷ bs) (suc k) h = there bs k (omega arith)
 
-is_there : (h : DatasetHead) (n : ℕ) → 0 < length h.bands → nat_le n (length h.bands) ≡ true → (b : BandHead) × (band_of h n ≡ Some b)
+is_there : (h : DatasetHead) (n : ℕ) → 0 < length h.bands → nat_le n (length h.bands) ≡ true → (b : BandHead) × (numbered_band h n ≡ Some b)
 is_there h n some e =
     let less : n ≤ length h.bands = grind (arith, nat_tests) in
     there h.bands (n - 1) (omega arith)
@@ -49,7 +49,7 @@ both true false e = absurd cc
 both false b e = absurd cc
 
 -- each band that there is gives a band, with a source of each input that isn't left out
-with_one : (o : Options) (h : DatasetHead) (ps : List PatchValue) (n : ℕ) (b : BandHead) (bs : List BandValue) → band_of h n ≡ Some b → cons_option (band_with o h ps n) bs ≡ band_from o b n ps ∷ bs
+with_one : (o : Options) (h : DatasetHead) (ps : List PatchValue) (n : ℕ) (b : BandHead) (bs : List BandValue) → numbered_band h n ≡ Some b → cons_option (band_with o h ps n) bs ≡ band_from o b n ps ∷ bs
 with_one o h ps n b bs e = ap (λ (x : Option BandHead). cons_option (option_map (λ y. band_from o y n ps) x) bs) e
 
 pub bands_count : (o : Options) (h : DatasetHead) (ps : List PatchValue) (ns : List ℕ) → 0 < length h.bands → has_bands h ns ≡ true → length (filter_map (band_with o h ps) ns) ≡ length ns
@@ -74,10 +74,10 @@ bands_sources o h ps (n ∷ ns) some e =
     ap source_count (with_one o h ps n b.0 (filter_map (band_with o h ps) ns) b.1) ∙ one_band (band_from o b.0 n ps) (filter_map (band_with o h ps) ns) (shown_count ps) (length ns) one more
 
 -- one band for each input: each has a first band
-own_one : (o : Options) (p : PatchValue) (b : BandHead) (bs : List BandValue) → band_of p.head 1 ≡ Some b → cons_option (own_band o p) bs ≡ band_from o b 1 (p ∷ []) ∷ bs
+own_one : (o : Options) (p : PatchValue) (b : BandHead) (bs : List BandValue) → numbered_band p.head 1 ≡ Some b → cons_option (own_band o p) bs ≡ band_from o b 1 (p ∷ []) ∷ bs
 own_one o p b bs e = ap (λ (x : Option BandHead). cons_option (option_map (λ y. band_from o y 1 (p ∷ [])) x) bs) e
 
-first_band : (h : DatasetHead) → 0 < length h.bands → (b : BandHead) × (band_of h 1 ≡ Some b)
+first_band : (h : DatasetHead) → 0 < length h.bands → (b : BandHead) × (numbered_band h 1 ≡ Some b)
 first_band h some = there h.bands 0 some
 
 -- the first of the inputs, and those behind it

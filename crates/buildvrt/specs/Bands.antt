@@ -10,7 +10,7 @@ use Rattle.vrt_profile.specs.Resolve.{related}
 use Rattle.catalog.specs.Dataset.{DatasetHead}
 use Rattle.catalog.specs.declared.kind.BandHead.{BandHead}
 use Rattle.buildvrt.specs.Options.{Options}
-use Rattle.buildvrt.specs.Judging.{band_of, taken_bands}
+use Rattle.buildvrt.specs.Judging.{numbered_band, taken_bands}
 use Rattle.buildvrt.specs.Rectangles.{PatchValue}
 use Rattle.catalog.specs.declared.nodata.NodataWord.{NodataWord}
 use Rattle.catalog.specs.declared.nodata.NodataWord.TheVariants.{Absent, Remove, Number}
@@ -45,7 +45,7 @@ band_nodata (Some band) = band.nodata
 -- the source that shows the whole of an input's band in a rectangle
 abbrev pub source_of : Options → DatasetHead → ℕ → Rectangle → SourceValue
 source_of o h number shown = plain_source (related o.out h.name) number (whole h.size) shown
-    (source_nodata o.src_nodata (band_nodata (band_of h number)))
+    (source_nodata o.src_nodata (band_nodata (numbered_band h number)))
 
 -- the source of an input that isn't left out
 abbrev pub source_in : Options → ℕ → PatchValue → Option SourceValue
@@ -61,7 +61,7 @@ band_from o band number patches = record {
 
 -- the band of this number of a dataset, with these inputs
 abbrev pub band_with : Options → DatasetHead → List PatchValue → ℕ → Option BandValue
-band_with o h patches number = option_map (λ band. band_from o band number patches) (band_of h number)
+band_with o h patches number = option_map (λ band. band_from o band number patches) (numbered_band h number)
 
 -- one band for each chosen band of the reference, with all inputs
 abbrev pub common_bands : Options → DatasetHead → List PatchValue → List BandValue

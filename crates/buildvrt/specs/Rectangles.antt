@@ -5,7 +5,7 @@ use Rattle.lists_and_answers.specs.Answers.{◌>>=◌}
 use Rattle.geotransform.specs.Places.{rounded_up}
 use Rattle.geotransform.specs.declared.types.Size.{Size}
 use Rattle.vrt_profile.specs.Values.{Rectangle, IsRectangle}
-use Rattle.vrt_profile.specs.Built.{pixels_at}
+use Rattle.vrt_profile.specs.Built.{pixel_rectangle}
 use Rattle.catalog.specs.Dataset.{DatasetHead, IsDatasetHead}
 use Rattle.buildvrt.specs.Tiles.{TileValue}
 use Rattle.buildvrt.specs.Grids.{GridValue, some_pixels, measure}
@@ -42,11 +42,11 @@ is_within r = is_offset r.x && (is_offset r.y && (is_offset r.w && is_offset r.h
 
 -- in millionths of a pixel
 abbrev pub in_millionths : PixelRect → Rectangle
-in_millionths r = pixels_at r.x r.y r.w r.h
+in_millionths r = pixel_rectangle r.x r.y r.w r.h
 
 -- The rectangle of an input, none where it meets no pixel of the mosaic.
-abbrev pub shown_at : Size → PixelRect → Result (Option Rectangle) BuildFault
-shown_at size r = if meets size r then (if is_within r then Ok (Some (in_millionths r)) else Err Limit) else Ok None
+abbrev pub shown_in : Size → PixelRect → Result (Option Rectangle) BuildFault
+shown_in size r = if meets size r then (if is_within r then Ok (Some (in_millionths r)) else Err Limit) else Ok None
 
 -- an input, and its rectangle in the mosaic
 pub record PatchValue : Type 0 where
@@ -56,7 +56,7 @@ pub record PatchValue : Type 0 where
 -- the patch of an input in a grid
 unfoldable pub patch_of : GridValue → TileValue → Result PatchValue BuildFault
 patch_of g t = do
-  shown ← shown_at g.size (rectangle_of g t)
+  shown ← shown_in g.size (rectangle_of g t)
   Ok (record { head = t.head; shown = shown })
 
 -- a patch before others

@@ -18,7 +18,7 @@ use Rattle.esri_hdr.specs.declared.header_parts.RawGeo.{RawGeo}
 use Rattle.esri_hdr.specs.declared.header_parts.Shape.{Shape}
 use Rattle.esri_hdr.specs.declared.header_parts.Rows.{Rows}
 use Rattle.esri_hdr.specs.Keys as keys
-use Rattle.esri_hdr.specs.Lines.{Values, last_of}
+use Rattle.esri_hdr.specs.Lines.{Values, last_in_text}
 use Rattle.lists_and_answers.specs.Answers.{◌>>=◌}
 use Rattle.esri_hdr.specs.Head.{place_in, step_in, is_half_near, geo_in, nodata_in, shape_of, row_len, rows_of, geo_of, Head, head_of, esri_head, sample_len, GeoFits, IsHead, RowsFit}
 use Rattle.esri_hdr.specs.Text.{order_text, layout_text, sign_text, nodata_fields, geo_fields, fields_of, fields_from, hdr_text}
@@ -210,5 +210,5 @@ pub hdr_again : (h : Head) → IsHead h → esri_head (hdr_text h) ≡ Ok h
 unfolding esri_head hdr_text
 hdr_again h is =
     let short : nat_lt 1048576 (length (hdr_text h)) ≡ false = not_above (length (hdr_text h)) (text_short h is) in
-    let values : (λ key. last_field key (fields_of h)) ≡ last_of (hdr_text h) = fun_ext (λ key. sym (last_text (fields_of h) (fields_all h is) key)) in
-    ap (λ b. cond b (Err Limit) (head_of (last_of (hdr_text h)))) short ∙ sym (ap head_of values) ∙ head_again h (λ key. last_field key (fields_of h)) (written h h.nodata h.geo) is
+    let values : (λ key. last_field key (fields_of h)) ≡ last_in_text (hdr_text h) = fun_ext (λ key. sym (last_text (fields_of h) (fields_all h is) key)) in
+    ap (λ b. cond b (Err Limit) (head_of (last_in_text (hdr_text h)))) short ∙ sym (ap head_of values) ∙ head_again h (λ key. last_field key (fields_of h)) (written h h.nodata h.geo) is

@@ -18,7 +18,7 @@ use Rattle.esri_hdr.specs.declared.header_parts.Layout.TheVariants.{Bil, Bip, Bs
 use Rattle.esri_hdr.specs.declared.header_parts.RawGeo.{RawGeo}
 use Rattle.esri_hdr.specs.declared.header_parts.Shape.{Shape}
 use Rattle.esri_hdr.specs.declared.header_parts.Rows.{Rows}
-use Rattle.esri_hdr.specs.Lines.{Values, last_of}
+use Rattle.esri_hdr.specs.Lines.{Values, last_in_text}
 use Rattle.esri_hdr.specs.Values.{side_in, bands_in, bits_in, big_endian_in, layout_in, skip_in, signed_in}
 use Rattle.esri_hdr.specs.Values.{type_of_bits}
 use Rattle.esri_hdr.specs.Values.{band_row_in, total_row_in, gap_in, BandRowFits, TotalRowFits, GapFits, longest_gap}
@@ -139,7 +139,7 @@ longest_header = 1048576
 
 -- the head that a text gives, or the first fault
 unfoldable pub esri_head : List ℕ → Result Head HdrFault
-esri_head text = if nat_lt longest_header (length text) then Err Limit else head_of (last_of text)
+esri_head text = if nat_lt longest_header (length text) then Err Limit else head_of (last_in_text text)
 
 -- the bytes of a sample
 abbrev pub sample_len : PixelType → ℕ

@@ -50,8 +50,8 @@ last_in key [] = None
 last_in key (line ∷ more) = or_else (last_in key more) (value_in key line)
 
 -- the value that the last line of a text that has the key gives it
-abbrev pub last_of : List ℕ → ℕ → Option (List ℕ)
-last_of text key = last_in key (lines text)
+abbrev pub last_in_text : List ℕ → ℕ → Option (List ℕ)
+last_in_text text key = last_in key (lines text)
 
 -- the value of each key
 abbrev pub Values : Type 0

@@ -67,11 +67,11 @@ with_lines names [] = Ok names
 with_lines names (line ∷ more) = name_of_line line >>= λ name. (with_name names name >>= λ next. with_lines next more)
 
 -- of the names that are given there are as many too
-abbrev pub few_of : List (List ℕ) → Result (Unit {0}) Fault
-few_of names = if nat_lt most_datasets (length names) then Err (Limit limits.Files (most_datasets + 1)) else Ok tt
+abbrev pub unless_many : List (List ℕ) → Result (Unit {0}) Fault
+unless_many names = if nat_lt most_datasets (length names) then Err (Limit limits.Files (most_datasets + 1)) else Ok tt
 
 abbrev pub named_behind : List (List ℕ) → List (List ℕ) → Result (List (List ℕ)) Fault
-named_behind names lines = few_of names >>= λ few. with_lines names lines
+named_behind names lines = unless_many names >>= λ few. with_lines names lines
 
 -- The names of the inputs, or the first refusal: that of the list as a whole, then that of the first name.
 unfoldable pub names_in : Files → List (List ℕ) → Option (List ℕ) → Result (List (List ℕ)) Fault

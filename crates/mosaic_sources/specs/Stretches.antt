@@ -28,8 +28,8 @@ pub record IsWithinCount (count : ℕ) (s : Span) : Type 0 where
   pub within : s.end ≤ count
 
 -- how much all spans hold together
-abbrev pub held_by : List Span → ℕ
-held_by spans = sum_by (λ s. s.end - s.first) spans
+abbrev pub total_held : List Span → ℕ
+total_held spans = sum_by (λ s. s.end - s.first) spans
 
 -- For each stretch between cuts, the numbers of the spans that hold its lines; none where there is no line.
 pub record AreListsOf (cuts : List ℕ) (height : ℕ) (spans : List Span) (kept : List (List ℕ)) : Type 0 where

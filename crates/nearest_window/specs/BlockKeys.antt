@@ -36,5 +36,5 @@ pub record IsPartBlock (told : Option Files) (cat : List Dataset) (key : BlockKe
   pub content : (m : Files) → told ≡ Some m → block.samples ≡ row_by_row (pixel_of m cat key.dataset key.band) rect
 
 -- the first pixel of a rectangle of the band that a block is of
-abbrev pub pixel_at : BlockKey → Rect → PixelKey
-pixel_at key rect = record { dataset = key.dataset; band = key.band; x = rect.x; y = rect.y }
+abbrev pub first_pixel_of : BlockKey → Rect → PixelKey
+first_pixel_of key rect = record { dataset = key.dataset; band = key.band; x = rect.x; y = rect.y }

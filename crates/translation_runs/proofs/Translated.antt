@@ -9,7 +9,7 @@ use Rattle.catalog.specs.Outcomes as outcomes
 use Rattle.catalog.specs.Dataset.{DatasetHead}
 use Rattle.catalog.specs.Drivers.{Dataset}
 use Rattle.catalog.specs.Heads.{dataset_in}
-use Rattle.catalog.specs.Walk.{walked, number_of, IsWalked}
+use Rattle.catalog.specs.Walk.{walked, dataset_number_in, IsWalked}
 use Rattle.catalog.proofs.Found.{found}
 use Rattle.catalog.specs.declared.faults.WalkFault.{WalkFault}
 use Rattle.catalog.specs.declared.faults.WalkFault.TheVariants as walk
@@ -37,7 +37,7 @@ pub record Walked (m : Files) (verify : Bool) (src : List ℕ) (cat : List Datas
   pub read : dataset_in m false src ≡ Ok dataset
   pub headed : head ≡ dataset.head
 
-pub walked_so : (m : Files) (verify : Bool) (src : List ℕ) (old cat : List Dataset) (id : ℕ) (head : DatasetHead) → old ≡ [] → walked m verify old src ≡ Ok cat → (IsWalked m old → IsWalked m cat) → number_of cat src ≡ Some id → option_map (λ (d : Dataset). d.head) (slice_get cat id) ≡ Some head → Walked m verify src cat id head
+pub walked_so : (m : Files) (verify : Bool) (src : List ℕ) (old cat : List Dataset) (id : ℕ) (head : DatasetHead) → old ≡ [] → walked m verify old src ≡ Ok cat → (IsWalked m old → IsWalked m cat) → dataset_number_in cat src ≡ Some id → option_map (λ (d : Dataset). d.head) (slice_get cat id) ≡ Some head → Walked m verify src cat id head
 walked_so m verify src old cat id head empty walk more number is =
     let d = found cat src id number in
     record {

@@ -17,7 +17,7 @@ use Rattle.esri_hdr.specs.Head.{Head, IsHead, sample_len}
 use Rattle.interleaved_raw.specs.Raw.{position_by, position_of, raw_at, sample_at, sample_bytes, stride_of, IsPlace}
 use Rattle.interleaved_raw.proofs.Writes.{read_again, sample_bytes_len}
 use Rattle.hgt_tiles.specs.Samples as tiles
-use Rattle.hgt_tiles.specs.Samples.{hgt_at, item_of, row_bytes}
+use Rattle.hgt_tiles.specs.Samples.{hgt_at, item_at, row_bytes}
 use Rattle.hgt_tiles.proofs.Rows as tile_rows
 use Rattle.dted_records.specs.Head as cells
 use Rattle.dted_records.specs.Head.{part}
@@ -159,7 +159,7 @@ tile_sample side samples x y column line within =
     ap (λ m. tiles.sample_at (drop m b)) (let e : 2 * (y * side + x) ≡ y * (2 * side) + x * 2 = grind arith in e)
     ∙ ap tiles.sample_at (sym (drop-drop (x * 2) (y * (2 * side)) b))
     ∙ front_sample (drop (x * 2) (drop (y * (2 * side)) b)) (drop (x * 2) row) (sym (within_front (x * 2) 2 (2 * side) (drop (y * (2 * side)) b) (omega arith)) ∙ ap (λ (l : List ℕ). take 2 (drop (x * 2) l)) is)
-    ∙ sym (get_or-map-range_with_len (item_of row) 0 (length (line_at samples side y)) x x (pos 0) (omega arith) (zero-add x))
+    ∙ sym (get_or-map-range_with_len (item_at row) 0 (length (line_at samples side y)) x x (pos 0) (omega arith) (zero-add x))
     ∙ ap (λ (l : List ℤ). get_or l x (pos 0)) read
     ∙ made_at (λ u. samples 0 u y) side x column
   where

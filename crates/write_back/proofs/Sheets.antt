@@ -9,7 +9,7 @@ use Rattle.block_cache.specs.Entries.{PoolView, pool_view}
 use Rattle.write_back.specs.declared.forms.Writer.{Writer}
 use Rattle.write_back.specs.declared.forms.Writer.TheVariants.{Raw, Hgt, Dted}
 use Rattle.write_back.specs.Forms.{band_total, cut_of, pixel_sample, most_calls}
-use Rattle.write_back.specs.Spots.{HasPixel, rows_in}
+use Rattle.write_back.specs.Spots.{HasPixel, cut_rows}
 use Rattle.write_back.specs.Overlay.{overlay, IsOverlaid, WasMet}
 use Rattle.write_back.specs.Stores.{AreSame, IsWindow, Stays, StoreState, AreMet, Changes, Serves}
 use Rattle.write_back.specs.State.{HasDraft, IsRight, IsSound, lines_met}
@@ -194,10 +194,10 @@ module _ (g : GridForm) where
   }
 
   pub rows_put : (band : ℕ) (rect : Rect) (samples : List ℤ) (told told' : Option Files) (d d' : Option (List ℕ)) (l l' : ℕ) (name name' : List ℕ) (n n' : ℕ) → band < 1 → IsNext (Rows g) n rect → rect.y + rect.h ≤ g.size.h → length samples ≡ rect.w * rect.h → told' ≡ told → n' ≡ n + rect.h
-      → ((m : Files) → told ≡ Some m → (rows : List (List ℤ)) × HasRows g n d rows) → ((rows : List (List ℤ)) → HasRows g n d rows → HasRows g n' d' (rows ++ rows_in rect.w rect.h samples))
+      → ((m : Files) → told ≡ Some m → (rows : List (List ℤ)) × HasRows g n d rows) → ((rows : List (List ℤ)) → HasRows g n d rows → HasRows g n' d' (rows ++ cut_rows rect.w rect.h samples))
       → Puts band rect samples told told' (rows_at d l name n) (rows_at d' l' name' n')
   rows_put band rect samples told told' d d' l l' name name' n n' one next down size names lines right more = record {
-    right = λ m e. (let has = right m (sym names ∙ e) in (has.0 ++ rows_in rect.w rect.h samples, more has.0 has.1));
+    right = λ m e. (let has = right m (sym names ∙ e) in (has.0 ++ cut_rows rect.w rect.h samples, more has.0 has.1));
     overlay = λ some. (
         let m = told_by told some in
         let has = right m.0 m.1 in
@@ -234,7 +234,7 @@ rows_kept_of g g' rect told told' d d' l l' name name' n n' r r' c c' w w' old n
 
 pub rows_put_of : (g g' : GridForm) (band : ℕ) (rect : Rect) (samples : List ℤ) (told told' : Option Files) (d d' : Option (List ℕ)) (l l' : ℕ) (name name' : List ℕ) (n n' : ℕ) (old new : SheetView) → rows_at g d l name n ≡ old → rows_at g' d' l' name' n' ≡ new → g' ≡ g
     → band < 1 → IsNext (Rows g) n rect → rect.y + rect.h ≤ g.size.h → length samples ≡ rect.w * rect.h → told' ≡ told → n' ≡ n + rect.h
-    → ((m : Files) → told ≡ Some m → (rows : List (List ℤ)) × HasRows g n d rows) → ((rows : List (List ℤ)) → HasRows g n d rows → HasRows g n' d' (rows ++ rows_in rect.w rect.h samples)) → Puts band rect samples told told' old new
+    → ((m : Files) → told ≡ Some m → (rows : List (List ℤ)) × HasRows g n d rows) → ((rows : List (List ℤ)) → HasRows g n d rows → HasRows g n' d' (rows ++ cut_rows rect.w rect.h samples)) → Puts band rect samples told told' old new
 rows_put_of g g' band rect samples told told' d d' l l' name name' n n' old new is now same one next down size names lines right more =
     subst (λ v. Puts band rect samples told told' v new) is
     (subst (λ v. Puts band rect samples told told' (rows_at g d l name n) v) (ap (λ u. rows_at u d' l' name' n') (sym same) ∙ now)

@@ -82,5 +82,5 @@ pub record IsRunWritten (h : Head) (band y x n : ℕ) (line : List ℤ) (old new
       spot_at h new k u v ≡ spot_at h old k u v
 
 -- samples cut into n rows of w
-abbrev pub rows_in : ℕ → ℕ → List ℤ → List (List ℤ)
-rows_in w n samples = map (λ r. take w (drop (r * w) samples)) (range_with_len 0 n)
+abbrev pub cut_rows : ℕ → ℕ → List ℤ → List (List ℤ)
+cut_rows w n samples = map (λ r. take w (drop (r * w) samples)) (range_with_len 0 n)
