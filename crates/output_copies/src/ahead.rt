@@ -13,9 +13,9 @@ ghost use Rattle.output_copies.specs.Copying.{spoken, MayEnd, TellsChange};
 ghost use Rattle.output_copies.specs.Filled.{IsFilled, Tells};
 ghost use Rattle.output_copies.specs.Parts.{AreBehind, ArePart, BeginsWith};
 
+use crate::band_lines::{area, read_part, write_part};
 use crate::calls::at_once;
 use crate::copying::Copier;
-use crate::parts::{area, read_part, write_part};
 use crate::progress::{Share, tell};
 use error_lines::Fault;
 use geotransform::Sample;

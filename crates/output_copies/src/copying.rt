@@ -9,7 +9,7 @@ ghost use Rattle.output_copies.specs.Copying.{spoken, MayEnd, TellsChange};
 ghost use Rattle.output_copies.specs.Filled.{IsFilled};
 ghost use Rattle.output_copies.specs.Parts.{ArePart};
 
-use crate::parts::{area, read_part, write_part};
+use crate::band_lines::{area, read_part, write_part};
 use crate::progress::{Share, tell};
 use error_lines::Fault;
 use geotransform::Sample;

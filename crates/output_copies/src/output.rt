@@ -21,9 +21,9 @@ ghost use Rattle.output_copies.specs.Steps.{written};
 ghost use Rattle.band_blocks.specs.Blocks.{most_blocks};
 
 use crate::ahead::{Rooms, copy_ahead};
+use crate::band_lines::area;
 use crate::copying::{Copier, copy_all};
 use crate::documents::write_document;
-use crate::parts::area;
 use crate::texts::{put_end, put_size};
 use crate::writing::Writing;
 use error_lines::Fault;

@@ -13,8 +13,8 @@ use Rattle.vrt_profile.specs.Means.{BandParts, DatasetParts, no_band_parts, once
 use Rattle.vrt_markup.specs.Kept.{kept_of}
 use Rattle.vrt_profile.specs.Seen.{band_by, one_more}
 use Rattle.vrt_profile.specs.Parts.{IsBandParts, IsDatasetParts}
-use Rattle.vrt_profile.specs.declared.parts.BandPart.{BandPart}
-use Rattle.vrt_profile.specs.declared.parts.BandPart.TheVariants.{NoData, Simple, Complex, Past, Unknown}
+use Rattle.vrt_profile.specs.declared.elements.BandPart.{BandPart}
+use Rattle.vrt_profile.specs.declared.elements.BandPart.TheVariants.{NoData, Simple, Complex, Past, Unknown}
 use Rattle.vrt_markup.specs.declared.fault.VrtFault.{VrtFault}
 use Rattle.vrt_markup.specs.declared.fault.VrtFault.TheVariants.{BadNumber, Unsupported, Limit}
 use Rattle.vrt_profile.proofs.Tables.{bind_ok, ok_same, cond_err}

@@ -14,9 +14,9 @@ ghost use Rattle.vrt_markup.specs.Views.{tag_view};
 ghost use Rattle.vrt_markup.specs.Kept.{Gives, seen, kept_of};
 
 use crate::document::{Sources, VrtBand};
+use crate::elements::{BandPart, band_part_of};
 use crate::fields::whole_text;
 use crate::numbers::NoData;
-use crate::parts::{BandPart, band_part_of};
 use crate::puts::{past_child, put_once};
 use crate::source::{nodata_by, source_element};
 use geotransform::{PixelType, when_in};

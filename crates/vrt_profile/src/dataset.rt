@@ -15,9 +15,9 @@ ghost use Rattle.geotransform.specs.Limits.{most_side};
 
 use crate::band::band_element;
 use crate::document::{Document, VrtBand, VrtBands};
+use crate::elements::{DatasetPart, dataset_part_of};
 use crate::kept::text_by;
 use crate::numbers::{geo_of, side_in};
-use crate::parts::{DatasetPart, dataset_part_of};
 use crate::puts::{past_child, put_once};
 use geotransform::{GeoTransform, Size};
 use lists_and_answers::Items;

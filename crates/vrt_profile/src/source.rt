@@ -18,11 +18,11 @@ ghost use Rattle.vrt_profile.specs.ScalingViews.{IsScaling, scaling_of};
 ghost use Rattle.geotransform.specs.Limits.{most_bands, whole_limit};
 
 use crate::document::{Source, Sources};
+use crate::elements::{NumberPart, SourcePart, source_part_of};
 use crate::fields::trim;
 use crate::kept::{text_by, text_rules};
 use crate::lookup::lut_of;
 use crate::numbers::{NoData, Scale, band_number, nodata_in, scale_of};
-use crate::parts::{NumberPart, SourcePart, source_part_of};
 use crate::puts::{past_child, put_once};
 use crate::rect::rect_child;
 use crate::rectangle::{Lut, MicroRect};
