@@ -14,7 +14,7 @@ use Rattle.outside.specs.Outside.{Files}
 use Rattle.interleaved_raw.proofs.Order.{ends_within}
 use Rattle.dted_records.specs.Head as dted
 use Rattle.dted_records.specs.Places as dted_places
-use Rattle.dted_records.specs.Records.{point_of}
+use Rattle.dted_records.specs.Records.{point_place_of}
 use Rattle.catalog.specs.declared.driver.Content.{Content}
 use Rattle.catalog.specs.declared.driver.Content.TheVariants.{File, Mosaic}
 use Rattle.catalog.specs.declared.driver.DriverHead.{DriverHead}
@@ -41,7 +41,7 @@ use Rattle.band_blocks.proofs.Opened.{good_found, some_file}
 use Rattle.band_blocks.proofs.Parts.{tile_long}
 
 -- each elevation ends within the bytes that a cell must have
-elevation_within : (h : dted.Head) (x y : ℕ) → x < h.lines → y < h.points → dted_places.record_of h x + point_of h y + 2 ≤ dted_places.needed_of h
+elevation_within : (h : dted.Head) (x y : ℕ) → x < h.lines → y < h.points → dted_places.record_of h x + point_place_of h y + 2 ≤ dted_places.needed_of h
 elevation_within h x y column line =
     let big : (x + 1) * dted_places.record_len h ≤ h.lines * dted_places.record_len h = mul-le-mul (omega arith) (omega arith) in
     let e : (x + 1) * dted_places.record_len h ≡ x * dted_places.record_len h + dted_places.record_len h = grind arith in

@@ -6,7 +6,7 @@ use Rattle.geotransform.specs.declared.types.PixelType.TheVariants.{Int16, Int32
 use Rattle.esri_hdr.specs.Head.{sample_len}
 use Rattle.interleaved_raw.specs.Raw.{position_of}
 use Rattle.dted_records.specs.Places.{record_of}
-use Rattle.dted_records.specs.Records.{point_of}
+use Rattle.dted_records.specs.Records.{point_place_of}
 use Rattle.catalog.specs.declared.driver.DriverHead.{DriverHead}
 use Rattle.catalog.specs.declared.driver.DriverHead.TheVariants.{Raw, Dted, Hgt, Ascii}
 use Rattle.band_blocks.specs.Blocks.{BlockView, AreIn}
@@ -46,7 +46,7 @@ bytes_per_sample (Ascii h) = 0
 -- the place of the sample of a band, a column and a line
 abbrev pub place_of : DriverHead → ℕ → ℕ → ℕ → ℕ
 place_of (Raw h) band x y = position_of h band x y
-place_of (Dted h) band x y = record_of h x + point_of h y
+place_of (Dted h) band x y = record_of h x + point_place_of h y
 place_of (Hgt side) band x y = 2 * (y * side + x)
 place_of (Ascii h) band x y = 0
 

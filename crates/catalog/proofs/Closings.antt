@@ -13,7 +13,7 @@ use Rattle.catalog.specs.Mosaics.{sources_of}
 use Rattle.catalog.specs.Outcomes.{IsOutside}
 use Rattle.catalog.specs.Heads.{kind_in}
 use Rattle.catalog.specs.Walk.{Met, dataset_number_in, sources_in, visit, visit_sources}
-use Rattle.catalog.specs.Linked.{State, met_of, IsLinked, IsLink, IsLinkOf, IsMosaicAt, IsPath, IsMember, Each, AreRows, Grows, Goes, most, pushed, met_whole}
+use Rattle.catalog.specs.Linked.{State, met_of, IsLinked, IsLink, IsLinkOf, IsMosaicAt, IsPath, IsMember, Each, AreMemberRows, Grows, Goes, most, pushed, met_whole}
 use Rattle.catalog.specs.Walking.{Seen, Visits, IsOpened, Passes, ReachesRows}
 use Rattle.catalog.proofs.States.{grows_trans, grows_pushed, grows_closed, goes_mosaic, stays_open, path_pushed, pushed_at, set_same}
 use Rattle.catalog.proofs.Walking.{failed, fault_is, ok≢err}
@@ -29,7 +29,7 @@ members_known st base (s ∷ ss) (id ∷ ids) all =
     let t = all.0 in
     All-cons (λ id. id < length st.links) id ids (slice_get_within st.links id (Some t.link) t.whole) (members_known st base ss ids all.1)
 
-rows_in : (st : State) (base : List ℕ) (bands : List BandValue) (rows : List (List ℕ)) → AreRows st base bands rows → All (λ row. All (λ id. id < length st.links) row) rows
+rows_in : (st : State) (base : List ℕ) (bands : List BandValue) (rows : List (List ℕ)) → AreMemberRows st base bands rows → All (λ row. All (λ id. id < length st.links) row) rows
 rows_in st base [] [] all = All-nil (λ row. All (λ id. id < length st.links) row)
 rows_in st base [] (r ∷ rows) all = absurd all
 rows_in st base (b ∷ bands) [] all = absurd all

@@ -8,7 +8,7 @@ use Rattle.vrt_profile.specs.Values.{SourceValue, BandValue}
 use Rattle.catalog.specs.declared.links.Link.{Link}
 use Rattle.catalog.specs.Drivers.{Dataset}
 use Rattle.catalog.specs.Walk.{number_from, dataset_number_in, dataset_named, IsApart}
-use Rattle.catalog.specs.Linked.{State, Grows, IsMember, Each, AreRows, height_in, height_at, most}
+use Rattle.catalog.specs.Linked.{State, Grows, IsMember, Each, AreMemberRows, height_in, height_at, most}
 
 none≢some : {T : Type 0} {x : T} → None ≡ Some x → ⊥
 none≢some e = true≢false (sym (ap is_some e))
@@ -100,7 +100,7 @@ each_map P Q (a ∷ xs) [] h all = absurd all
 each_map P Q (a ∷ xs) (b ∷ bs) h all = (h a b all.0, each_map P Q xs bs h all.1)
 
 -- the rows of all bands, one behind the other
-pub flat_rows : (st : State) (base : List ℕ) (bands : List BandValue) (rows : List (List ℕ)) → AreRows st base bands rows → Each (IsMember st base) (flat_map (λ (b : BandValue). b.sources) bands) (flattened rows)
+pub flat_rows : (st : State) (base : List ℕ) (bands : List BandValue) (rows : List (List ℕ)) → AreMemberRows st base bands rows → Each (IsMember st base) (flat_map (λ (b : BandValue). b.sources) bands) (flattened rows)
 flat_rows st base [] [] all = tt
 flat_rows st base [] (r ∷ rows) all = absurd all
 flat_rows st base (b ∷ bands) [] all = absurd all
@@ -120,7 +120,7 @@ most_stays old new base (s ∷ ss) (id ∷ ids) grows all =
     let here : height_at new.links id ≡ height_at old.links id = ap height_in (grows.links id t.link t.whole) ∙ sym (ap height_in t.whole) in
     ap (λ h. max h (most new.links ids)) here ∙ ap (λ h. max (height_at old.links id) h) (most_stays old new base ss ids grows all.1)
 
-pub rows_stay : (old new : State) (base : List ℕ) (bands : List BandValue) (rows : List (List ℕ)) → Grows old new → IsApart new.datasets → AreRows old base bands rows → AreRows new base bands rows
+pub rows_stay : (old new : State) (base : List ℕ) (bands : List BandValue) (rows : List (List ℕ)) → Grows old new → IsApart new.datasets → AreMemberRows old base bands rows → AreMemberRows new base bands rows
 rows_stay old new base bands rows grows apart all =
     each_map (λ (b : BandValue) (row : List ℕ). Each (IsMember old base) b.sources row) (λ (b : BandValue) (row : List ℕ). Each (IsMember new base) b.sources row) bands rows
     (λ b row. each_map (IsMember old base) (IsMember new base) b.sources row (λ s id. member_stays old new base s id grows apart)) all

@@ -78,12 +78,13 @@ Each R (x ∷ xs) [] = ⊥
 Each R (x ∷ xs) (y ∷ ys) = R x y × Each R xs ys
 
 -- the numbers of what the sources of some bands name
-abbrev pub AreRows : State → List ℕ → List BandValue → List (List ℕ) → Type 0
-AreRows st base bands rows = Each (λ (b : BandValue) (row : List ℕ). Each (IsMember st base) b.sources row) bands rows
+abbrev pub AreMemberRows : State → List ℕ → List BandValue → List (List ℕ) → Type 0
+AreMemberRows st base bands rows =
+    Each (λ (b : BandValue) (row : List ℕ). Each (IsMember st base) b.sources row) bands rows
 
 -- a mosaic is one higher than the highest dataset that its sources name
 pub record IsMosaicLink (st : State) (name : List ℕ) (doc : DocumentValue) (l : Link) : Type 0 where
-  pub rows : AreRows st name doc.bands l.members
+  pub rows : AreMemberRows st name doc.bands l.members
   pub height : l.height ≡ suc (most st.links (flattened l.members))
 
 -- the link of a content: that of a file has the height 0

@@ -22,7 +22,8 @@ use Rattle.catalog.specs.Heads.{kind_in, resolved, IsOwnFault, OwnsFaults}
 use Rattle.catalog.specs.Walk.{dataset_number_in, one_more_source, visit, visit_sources, IsWalked, TellsKinds}
 use Rattle.catalog.specs.Walk.{WalksUnknown}
 use Rattle.catalog.specs.Readings.{calls_to_open_all}
-use Rattle.catalog.specs.Linked.{State, met_of, most, IsLinked, IsMember, Each, AreRows, IsPath, IsLow, Grows, Goes}
+use Rattle.catalog.specs.Linked.{State, met_of, most, IsLinked, IsMember, Each, AreMemberRows, IsPath, IsLow, Grows}
+use Rattle.catalog.specs.Linked.{Goes}
 use Rattle.catalog.specs.Linked.{pushed, one_counted, HasSource, height_at}
 
 -- what a folder tells, and how often it was written, was read and has failed
@@ -110,10 +111,10 @@ pub record IsOpened (verify : Bool) (room : ℕ) (name : List ℕ) (before after
     pub reads : ReadsOnce verify before after old new
 
 -- how a visit of a name begins
-abbrev pub Meets : Bool → ℕ → List ℕ → Seen → Seen → State → State → Result Meeting WalkFault → Type 0
-Meets verify room name before after old new (Ok (Whole id)) = Visits verify room name before after old new (Ok id)
-Meets verify room name before after old new (Ok (Open id)) = IsOpened verify room name before after old new id
-Meets verify room name before after old new (Err fault) = Visits verify room name before after old new (Err fault)
+abbrev pub MeetsName : Bool → ℕ → List ℕ → Seen → Seen → State → State → Result Meeting WalkFault → Type 0
+MeetsName verify room name before after old new (Ok (Whole id)) = Visits verify room name before after old new (Ok id)
+MeetsName verify room name before after old new (Ok (Open id)) = IsOpened verify room name before after old new id
+MeetsName verify room name before after old new (Err fault) = Visits verify room name before after old new (Err fault)
 
 -- the datasets that sources name were met whole, and aren't higher than this
 pub record Reaches (st : State) (room : ℕ) (base : List ℕ) (ss : List SourceValue) (row : List ℕ) : Type 0 where
@@ -123,7 +124,7 @@ pub record Reaches (st : State) (room : ℕ) (base : List ℕ) (ss : List Source
 -- and so are those that the sources of all bands name
 pub record ReachesRows (st : State) (room : ℕ) (base : List ℕ) (bands : List BandValue) (rows : List (List ℕ)) : Type 0
   where
-    pub members : AreRows st base bands rows
+    pub members : AreMemberRows st base bands rows
     pub low : most st.links (flattened rows) ≤ room
 
 -- the walk went through the sources of a band before one of them

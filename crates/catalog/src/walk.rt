@@ -13,7 +13,7 @@ ghost use Rattle.catalog.specs.Walk.{unless_no_band};
 ghost use Rattle.catalog.specs.Walk.{unless_no_samples, unless_wide, visit};
 ghost use Rattle.vrt_profile.specs.Value.{is_plain};
 ghost use Rattle.catalog.specs.Linked.{IsLinked, IsPath, IsLow, IsMosaicAt, HasBand, HasSource, met_of};
-ghost use Rattle.catalog.specs.Walking.{IsOrdinaryFault, Meets, Visits, Passes, Names, Reaches, ReachesRows};
+ghost use Rattle.catalog.specs.Walking.{IsOrdinaryFault, MeetsName, Visits, Passes, Names, Reaches, ReachesRows};
 ghost use Rattle.catalog.specs.Walking.{folder_seen};
 ghost use Rattle.catalog.specs.Walking.{IsWalkedUpTo, IsMetLow};
 
@@ -197,7 +197,7 @@ fn meet_first<F: Folder>(
     requires kind { kind_in name.now ≡ Ok kind }
     requires shallow { room_for room kind name.now ≡ Ok tt }
     requires fresh { dataset_number_in met.old.datasets name.now ≡ None }
-    ensures meets { Meets verify room name.now (folder_seen (F.names folder.old) (F.write_calls folder.old)
+    ensures meets { MeetsName verify room name.now (folder_seen (F.names folder.old) (F.write_calls folder.old)
         (F.read_calls folder.old) (F.faults folder.old)) (folder_seen (F.names folder.new) (F.write_calls folder.new)
         (F.read_calls folder.new) (F.faults folder.new)) met.old met.new result }
 {
@@ -227,7 +227,7 @@ fn meet<F: Folder>(
 ) -> Result<Meeting, WalkFault>
     requires linked { IsLinked met.old }
     requires room { room ≤ most_nestings }
-    ensures meets { Meets verify room name.now (folder_seen (F.names folder.old) (F.write_calls folder.old)
+    ensures meets { MeetsName verify room name.now (folder_seen (F.names folder.old) (F.write_calls folder.old)
         (F.read_calls folder.old) (F.faults folder.old)) (folder_seen (F.names folder.new) (F.write_calls folder.new)
         (F.read_calls folder.new) (F.faults folder.new)) met.old met.new result }
 {

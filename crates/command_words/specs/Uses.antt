@@ -38,9 +38,9 @@ pub record Use : Type 0 where
   pub values : List (List ℕ)
 
 -- how many words behind a word are its values
-abbrev pub taken_by : Option OptionWord → ℕ
-taken_by None = 0
-taken_by (Some option) = value_count option
+abbrev pub values_behind : Option OptionWord → ℕ
+values_behind None = 0
+values_behind (Some option) = value_count option
 
 -- the uses among words from this number on, where so many first ones are values of the option before
 abbrev pub uses_from : Tool → ℕ → ℕ → List (List ℕ) → List Use
@@ -49,9 +49,9 @@ uses_from tool at zero (word ∷ words) = record {
   at = at;
   word = word;
   option = option_of tool word;
-  values = take (taken_by (option_of tool word)) words;
+  values = take (values_behind (option_of tool word)) words;
 } ∷ uses_from
-    tool (at + 1) (taken_by (option_of tool word)) words
+    tool (at + 1) (values_behind (option_of tool word)) words
 uses_from tool at (suc taken) (word ∷ words) = uses_from tool (at + 1) taken words
 
 -- whether a word that begins with a dash may stand without an option

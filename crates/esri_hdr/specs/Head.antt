@@ -76,8 +76,8 @@ abbrev pub row_len : Shape → ℕ
 row_len s = s.w * (s.bits / 8)
 
 -- the keys from BANDROWBYTES to BANDGAPBYTES
-unfoldable pub rows_of : Shape → Values → Result Rows HdrFault
-rows_of s value = do
+unfoldable pub row_keys_of : Shape → Values → Result Rows HdrFault
+row_keys_of s value = do
   band_row ← band_row_in s.layout (row_len s) (value keys.bandrowbytes)
   total_row ← total_row_in s.layout s.bands (row_len s) band_row (value keys.totalrowbytes)
   gap ← gap_in s.layout (value keys.bandgapbytes)
@@ -129,7 +129,7 @@ head_from s r geo nodata = record {
 unfoldable pub head_of : Values → Result Head HdrFault
 head_of value = do
   s ← shape_of value
-  r ← rows_of s value
+  r ← row_keys_of s value
   geo ← geo_of value
   Ok (head_from s r geo (value keys.nodata))
 

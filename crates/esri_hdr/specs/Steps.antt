@@ -6,7 +6,7 @@ use Rattle.esri_hdr.specs.Lines.{Values}
 use Rattle.esri_hdr.specs.declared.header_parts.Shape.{Shape}
 use Rattle.esri_hdr.specs.Values.{longest_gap}
 use Rattle.esri_hdr.specs.Head.{IsSide}
-use Rattle.esri_hdr.specs.Text.{text_of}
+use Rattle.esri_hdr.specs.Text.{lines_text_of}
 use denote.Bor.{Bor}
 
 -- the values that were found, by the numbers of their keys
@@ -23,4 +23,4 @@ pub record IsShape (s : Shape) : Type 0 where
 
 -- the new bytes are the old ones and these lines
 pub record AppendsLines (old new : List ℕ) (fields : List (ℕ × List ℕ)) : Type 0 where
-  pub lines : new ≡ old ++ text_of fields
+  pub lines : new ≡ old ++ lines_text_of fields

@@ -27,8 +27,8 @@ abbrev pub within_limit : List ℕ → Result (Unit {0}) Fault
 within_limit bytes = if nat_lt longest_list (length bytes) then Err (Limit limits.List (length bytes)) else Ok tt
 
 -- the bytes of a list, which have to be UTF-8
-abbrev pub text_of : List ℕ → List ℕ → Result (List ℕ) Fault
-text_of name bytes = if is_utf8 bytes then Ok bytes else Err (Malformed name bad.List)
+abbrev pub list_text_in : List ℕ → List ℕ → Result (List ℕ) Fault
+list_text_in name bytes = if is_utf8 bytes then Ok bytes else Err (Malformed name bad.List)
 
 -- the lines that aren't empty
 abbrev pub is_filled : List ℕ → Bool
@@ -43,7 +43,7 @@ unfoldable pub lines_in : Files → List ℕ → Result (List (List ℕ)) Fault
 lines_in m name = do
   bytes ← list_in m name
   short ← within_limit bytes
-  text ← text_of name bytes
+  text ← list_text_in name bytes
   Ok (filled (lines text))
 
 abbrev pub listed_in : Files → Option (List ℕ) → Result (List (List ℕ)) Fault

@@ -23,15 +23,15 @@ IsAtLine (Blocks w) lines y = Unit {0}
 IsAtLine (Rows g) lines y = lines ≡ y
 
 -- each column of a cell was met
-abbrev pub AreMet : TargetView → Type 0
-AreMet t = (x : ℕ) → x < columns_of t.output → IsMetOn t.output (sheet_in t) x
+abbrev pub AreColumnsMet : TargetView → Type 0
+AreColumnsMet t = (x : ℕ) → x < columns_of t.output → IsMetOn t.output (sheet_in t) x
 
 -- the lines before `first` are those of a raster, and in the first bands, k of them, the lines before `end`
 pub record IsCopied (samples : ℕ → ℕ → ℕ → ℤ) (t : TargetView) (first end k : ℕ) : Type 0 where
   pub above : (b x y : ℕ) → IsIn t.output b x y → y < first → shown t b x y ≡ samples b x y
   pub beside : (b x y : ℕ) → IsIn t.output b x y → b < k → y < end → shown t b x y ≡ samples b x y
-  pub met : 0 < first → AreMet t
-  pub met_beside : 0 < k → AreMet t
+  pub met : 0 < first → AreColumnsMet t
+  pub met_beside : 0 < k → AreColumnsMet t
 
 -- An output of a plan, in which these lines were written, and no window was refused. Over a folder that tells its files
 -- they are those of the plan's raster.

@@ -27,12 +27,12 @@ abbrev pub nearest : ℤ → ℤ → ℤ → ℤ
 nearest least most v = if int_lt v least then least else (if int_lt most v then most else v)
 
 -- the least sample of a driver's files: that of the type, in a cell the least elevation
-abbrev pub least_of : Driver → PixelType → ℤ
-least_of EHdr kind = lowest kind
-least_of (Dted level) kind = null_elevation
-least_of SrtmHgt kind = lowest kind
-least_of AaiGrid kind = lowest kind
-least_of Vrt kind = lowest kind
+abbrev pub least_sample_by : Driver → PixelType → ℤ
+least_sample_by EHdr kind = lowest kind
+least_sample_by (Dted level) kind = null_elevation
+least_sample_by SrtmHgt kind = lowest kind
+least_sample_by AaiGrid kind = lowest kind
+least_sample_by Vrt kind = lowest kind
 
 -- what a band of a plan makes of a sample of the source, and what stands outside the raster
 pub record IsHolding (p : Planned) (k : ℕ) (h : Holding) : Type 0 where
@@ -51,14 +51,14 @@ abbrev pub made_of : Holding → List ℤ → ℕ → ℤ
 made_of h line place = made_found h (slice_get line place)
 
 -- a line lies in a span
-pub record IsIn (s : Span) (y : ℕ) : Type 0 where
+pub record IsInSpan (s : Span) (y : ℕ) : Type 0 where
   pub top : s.top ≤ y
   pub bottom : y < s.top + s.height
 
 -- the lines of a source of this height that lines of the output from `first` up to `end` show lie in a span
 pub record AreShownIn (p : Planned) (height first end : ℕ) (s : Span) : Type 0 where
   pub inside : s.top + s.height ≤ height
-  pub each : (j y : ℕ) → first ≤ j → j < end → within height (shown_line p j) ≡ Some y → IsIn s y
+  pub each : (j y : ℕ) → first ≤ j → j < end → within height (shown_line p j) ≡ Some y → IsInSpan s y
 
 -- a sample that stands in a column and a line of a band of the output: that of some pixels of the source, and over a
 -- folder that tells its files that of the source's pixels

@@ -80,13 +80,14 @@ out_band_at o h k =
     (source_band h (source_number_at o.bands k))
 
 -- a band without its NODATA, or with it
-abbrev pub band_by : Bool → OutBand → OutBand
-band_by true b = record { source = b.source; kind = b.kind; nodata = None }
-band_by false b = b
+abbrev pub nodata_band_by : Bool → OutBand → OutBand
+nodata_band_by true b = record { source = b.source; kind = b.kind; nodata = None }
+nodata_band_by false b = b
 
 -- the output's bands, all without their NODATA or all with it
 abbrev pub bands_by : Bool → Options → DatasetHead → List OutBand
-bands_by bare o h = map (λ k. band_by bare (out_band_at o h k)) (range_with_len 0 (count_of o.bands (length h.bands)))
+bands_by bare o h = map (λ k. nodata_band_by bare (out_band_at o h k))
+    (range_with_len 0 (count_of o.bands (length h.bands)))
 
 -- two bands have the same NODATA, or both have none
 abbrev pub same_nodata : Option ℤ → Option ℤ → Bool

@@ -19,7 +19,7 @@ use Rattle.write_back.specs.declared.rows.GridForm.{GridForm}
 use Rattle.write_back.specs.Grids.{front_of, lines_text, grid_at, grid_in, HasRows}
 use Rattle.write_back.specs.Spots.{cut_rows}
 use Rattle.write_back.specs.View.{Output, Rows, IsIn}
-use Rattle.write_back.specs.Overlay.{IsInside, IsOverlaid}
+use Rattle.write_back.specs.Overlay.{IsInBandRect, IsOverlaid}
 use Rattle.write_back.specs.Files.{line_at, grid_text}
 
 -- the values of the tokens of lines

@@ -36,10 +36,10 @@ pub record IsTight (h : Head) : Type 0 where
   pub rows : IsTightBy h.layout h
 
 -- the band, the column and the line of a sample by its number in the file
-abbrev pub band_by : Layout → Head → ℕ → ℕ
-band_by Bil h i = i / h.size.w % h.bands
-band_by Bip h i = i % h.bands
-band_by Bsq h i = i / h.size.w / h.size.h
+abbrev pub sample_band_by : Layout → Head → ℕ → ℕ
+sample_band_by Bil h i = i / h.size.w % h.bands
+sample_band_by Bip h i = i % h.bands
+sample_band_by Bsq h i = i / h.size.w / h.size.h
 
 abbrev pub column_by : Layout → Head → ℕ → ℕ
 column_by Bil h i = i % h.size.w
@@ -54,7 +54,8 @@ line_by Bsq h i = i / h.size.w % h.size.h
 -- the bytes of raw data: those of the samples, in the order of the file
 abbrev pub raw_bytes : Head → (ℕ → ℕ → ℕ → ℤ) → List ℕ
 raw_bytes h samples =
-    flat_map (λ i. sample_bytes h (samples (band_by h.layout h i) (column_by h.layout h i) (line_by h.layout h i)))
+    flat_map (λ i. sample_bytes h (samples (sample_band_by h.layout h i) (column_by h.layout h i)
+    (line_by h.layout h i)))
     (range_with_len 0 (h.bands * h.size.h * h.size.w))
 
 -- a line and a column of the first band

@@ -9,7 +9,7 @@ use Rattle.translate_plan.specs.declared.options.Driver.TheVariants as drivers
 use Rattle.translate_plan.specs.Options.{driver_for}
 use Rattle.translate_plan.specs.Fits.{cell_in}
 use Rattle.translate_plan.specs.Plan.{Planned, first_band, raw_head}
-use Rattle.write_back.specs.Columns.{cell_of}
+use Rattle.write_back.specs.Columns.{cell_with_front}
 use Rattle.write_back.specs.View.{Output, Blocks, Rows}
 use Rattle.write_back.specs.declared.forms.Writer.TheVariants as writers
 use Rattle.write_back.specs.declared.rows.GridForm.{GridForm}
@@ -21,7 +21,7 @@ IsNamedFor p name = option_map driver_for (extension_of name) ≡ Some p.driver
 -- the cell of a head, with the head as it is written in front
 abbrev pub cell_output : Option cells.Head → Option Output
 cell_output None = None
-cell_output (Some h) = Some (Blocks (writers.Dted (cell_of h (head_text h))))
+cell_output (Some h) = Some (Blocks (writers.Dted (cell_with_front h (head_text h))))
 
 -- a grid of a plan's size and geotransform, with the NODATA of its band
 abbrev pub grid_form : Planned → GridForm

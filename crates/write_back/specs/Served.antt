@@ -42,13 +42,13 @@ pub record Keeps (rect : Rect) (old new : SheetView) (told told' : Option Files)
   pub calls : c' ≤ c + calls_of old.output * (w' - w)
 
 -- what a window does besides where it answers Ok
-pub record Puts (band : ℕ) (rect : Rect) (samples : List ℤ) (told told' : Option Files) (old new : SheetView) : Type 0
-  where
-    pub right : IsRightOn old.output told' new
-    pub overlay : IsSome told → IsOverlaid (IsIn old.output) band rect samples (shown_on old.output old.pool old.draft)
-        (shown_on old.output new.pool new.draft)
-    pub met : IsSome told → Meets old.output rect old new
-    pub lines : new.lines ≡ lines_after old.output old.lines rect
+pub record PutsWindow (band : ℕ) (rect : Rect) (samples : List ℤ) (told told' : Option Files) (old new : SheetView)
+    : Type 0 where
+  pub right : IsRightOn old.output told' new
+  pub overlay : IsSome told → IsOverlaid (IsIn old.output) band rect samples (shown_on old.output old.pool old.draft)
+      (shown_on old.output new.pool new.draft)
+  pub met : IsSome told → Meets old.output rect old new
+  pub lines : new.lines ≡ lines_after old.output old.lines rect
 
 -- what the last writing does, whatever it answers
 pub record Finishes (old new : SheetView) (told told' : Option Files) (r r' c c' w w' : ℕ) : Type 0 where

@@ -68,9 +68,9 @@ columns_of (Blocks w) = column_total w
 columns_of (Rows g) = g.size.w
 
 -- how many lines an output has
-abbrev pub rows_of : Output → ℕ
-rows_of (Blocks w) = line_total w
-rows_of (Rows g) = g.size.h
+abbrev pub line_count_of : Output → ℕ
+line_count_of (Blocks w) = line_total w
+line_count_of (Rows g) = g.size.h
 
 -- a sample can be written
 abbrev pub is_writable : Output → ℤ → Bool
@@ -85,7 +85,7 @@ AreWritable o samples = All (λ n. is_writable o n ≡ true) samples
 pub record IsIn (o : Output) (k x y : ℕ) : Type 0 where
   pub band : k < bands_of o
   pub column : x < columns_of o
-  pub line : y < rows_of o
+  pub line : y < line_count_of o
 
 -- a window of a grid is whole lines, the first of which is the next that is written
 abbrev pub IsNext : Output → ℕ → Rect → Type 0
