@@ -14,7 +14,7 @@ use Rattle.geotransform.specs.declared.types.PixelType.TheVariants.{Int16}
 use Rattle.outside.specs.Outside.{Files}
 use Rattle.outside.specs.Names.{folder_part, extension_of, extension_of_ending, ending_of, last_part, header_of}
 use Rattle.outside.specs.Paths.{normal}
-use Rattle.esri_hdr.specs.Head.{Head, esri_head, head_of, shape_of, rows_of, geo_of, place_in, step_in, geo_in, nodata_in}
+use Rattle.esri_hdr.specs.Head.{Head, esri_head, head_of, shape_of, row_keys_of, geo_of, place_in, step_in, geo_in, nodata_in}
 use Rattle.esri_hdr.specs.Lines.{entry_at}
 use Rattle.esri_hdr.specs.Values as values
 use Rattle.esri_hdr.specs.Values.{side_in, bands_in, bits_in, big_endian_in, layout_in, skip_in, signed_in, row_in, band_row_in, total_row_in, gap_in}
@@ -136,7 +136,7 @@ abbrev header_text : List ℕ
 header_text = codes "NROWS 1" ++ 10 ∷ codes "NCOLS 3" ++ 10 ∷ codes "NBITS 16" ++ 10 ∷ codes "PIXELTYPE SIGNEDINT"
 
 header_read : esri_head header_text ≡ Ok (header 3)
-unfolding esri_head head_of shape_of rows_of geo_of place_in step_in geo_in nodata_in entry_at side_in bands_in bits_in big_endian_in layout_in skip_in signed_in values.type_of_bits row_in band_row_in total_row_in gap_in
+unfolding esri_head head_of shape_of row_keys_of geo_of place_in step_in geo_in nodata_in entry_at side_in bands_in bits_in big_endian_in layout_in skip_in signed_in values.type_of_bits row_in band_row_in total_row_in gap_in
 header_read = refl
 
 abbrev text_of : List ℕ → List ℕ

@@ -26,7 +26,7 @@ use Rattle.nearest_window.specs.declared.canvas.Canvas.{Canvas}
 use Rattle.nearest_window.specs.declared.taking.Taking.{Taking}
 use Rattle.nearest_window.specs.Canvases.{stands, stands_at, source_given, IsSame, IsTaken, IsUnasked, IsAsked, IsSourceTaken, AreTaken, IsPackedOf}
 use Rattle.nearest_window.specs.Painted.{IsPainted, in_columns}
-use Rattle.nearest_window.specs.Right.{IsPartBlock, IsMosaicKey}
+use Rattle.nearest_window.specs.BlockKeys.{IsPartBlock, IsMosaicKey}
 use Rattle.nearest_window.specs.Shown.{shown, IsShown}
 use Rattle.nearest_window.specs.Taken.{place_at, taken_by}
 use Rattle.nearest_window.proofs.Canvases.{same_under}

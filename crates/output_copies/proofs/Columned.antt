@@ -11,11 +11,11 @@ use Rattle.write_back.specs.Files.{IsTarget}
 use Rattle.write_back.specs.Forms.{cut_of, line_total}
 use Rattle.write_back.specs.Packed.{in_bytes, packed_in, packed_rect, IsApart}
 use Rattle.write_back.specs.Plans.{output_of}
-use Rattle.write_back.specs.View.{Output, Blocks, TargetView, columns_of, rows_of, sheet_in, shown, IsIn, IsMetOn, Meets, MeetsAll, Shows}
+use Rattle.write_back.specs.View.{Output, Blocks, TargetView, columns_of, line_count_of, sheet_in, shown, IsIn, IsMetOn, Meets, MeetsAll, Shows}
 use Rattle.write_back.specs.Overlay.{IsOverlaid}
 use Rattle.write_back.proofs.Outputs.{has_size, is_same}
 use Rattle.write_back.proofs.Past.{column_rect}
-use Rattle.output_copies.specs.Copying.{IsAtLine, IsFilled}
+use Rattle.output_copies.specs.Filled.{IsAtLine, IsFilled}
 use Rattle.output_copies.specs.Packed.{AreBlocksWritten, AreColumnsWritten, HoldsFront, IsPackedAt}
 use Rattle.output_copies.specs.Steps.{raster_of}
 use Rattle.output_copies.proofs.Packs.{column_band, column_blocks, column_spots, is_lined, line_blocks}
@@ -84,11 +84,11 @@ module _ (told : Option Files) (cat : List Dataset) (id : ℕ) (p : Planned) (w 
     tall = column_spots p w plan output columns
 
     -- the samples of the column
-    here : (m : Files) (d : Dataset) → told ≡ Some m → slice_get cat id ≡ Some d → (j : ℕ) → j < rows_of t.output → shown u 0 x j ≡ raster_of m d p 0 x j
+    here : (m : Files) (d : Dataset) → told ≡ Some m → slice_get cat id ≡ Some d → (j : ℕ) → j < line_count_of t.output → shown u 0 x j ≡ raster_of m d p 0 x j
     here m d e f j less =
         let size = has_size p t.output plan written.output in
         let high = size.lines_are in
-        let lines : line_total w ≡ p.size.h = ap rows_of (sym out) ∙ size.lines_are in
+        let lines : line_total w ≡ p.size.h = ap line_count_of (sym out) ∙ size.lines_are in
         let beside : x + 0 ≡ x = omega arith in
         let below : 0 + j ≡ j = omega arith in
         let place : j * 1 + 0 ≡ j = omega arith in
@@ -118,7 +118,7 @@ module _ (told : Option Files) (cat : List Dataset) (id : ℕ) (p : Planned) (w 
       met = λ m e i column less.
           let inside : i < columns_of t.output = subst (λ (o : Output). i < columns_of o) same column in
           let size = has_size p t.output plan written.output in
-          let some : 0 < line_total w = (let lines : line_total w ≡ p.size.h = ap rows_of (sym out) ∙ size.lines_are in let high = plan.size.some_lines in omega (arith, lines, high)) in
+          let some : 0 < line_total w = (let lines : line_total w ≡ p.size.h = ap line_count_of (sym out) ∙ size.lines_are in let high = plan.size.some_lines in omega (arith, lines, high)) in
           subst (λ (o : Output). IsMetOn o (sheet_in u) i) (sym same) (elim (cases_lt i x) [
             | inl low ↦ (met_by m e).stays i inside (written.met m e i inside low)
             | inr high ↦ (met_by m e).here some i high (omega arith)

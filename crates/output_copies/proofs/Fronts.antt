@@ -16,9 +16,8 @@ use Rattle.write_back.proofs.Lines.{written_below, written_here}
 use Rattle.write_back.proofs.States.{row_fits}
 use Rattle.strip_copies.specs.declared.reading.Lines.{Lines}
 use Rattle.strip_copies.specs.declared.pieces.Piece.{Piece}
-use Rattle.strip_copies.specs.Copies.{lines_rect}
+use Rattle.strip_copies.specs.Copies.{lines_rect, IsHeldIn}
 use Rattle.strip_copies.specs.Pieces.{piece_rect}
-use Rattle.strip_copies.specs.Rows.{IsHeldIn}
 use Rattle.output_copies.specs.Packed.{spot_pixel, HasRows, HoldsFront}
 use Rattle.output_copies.specs.Parts.{AreRead, AreReadIn}
 use Rattle.output_copies.specs.Steps.{raster_of}

@@ -20,17 +20,16 @@ use Rattle.write_back.specs.declared.forms.Writer.{Writer}
 use Rattle.write_back.specs.declared.forms.Writer.TheVariants.{Raw, Hgt, Dted}
 use Rattle.write_back.specs.Forms.{band_total, cut_of, AreHeld}
 use Rattle.write_back.specs.Files.{IsTarget}
-use Rattle.write_back.specs.Overlay.{line_rect}
+use Rattle.write_back.specs.Stores.{line_rect}
 use Rattle.write_back.specs.Packed.{block_len, in_bytes, packed_in, packed_rect, IsApart, IsLined}
 use Rattle.write_back.specs.Plans.{output_by, output_of}
 use Rattle.write_back.specs.View.{Output, Blocks, Rows, TargetView, lines_after, MeetsAll, Shows}
 use Rattle.write_back.proofs.Outputs.{cell_found, has_size, is_same}
 use Rattle.write_back.proofs.Past.{length_in, lined_rect, lined_rows, lined_whole, lined_wide}
 use Rattle.write_back.proofs.Woven.{columns_cut}
-use Rattle.strip_copies.specs.Copies.{lines_rect}
+use Rattle.strip_copies.specs.Copies.{lines_rect, IsHeldIn}
 use Rattle.strip_copies.specs.Portions.{has_columns}
-use Rattle.strip_copies.specs.Rows.{IsHeldIn}
-use Rattle.output_copies.specs.Copying.{IsFilled}
+use Rattle.output_copies.specs.Filled.{IsFilled}
 use Rattle.output_copies.specs.Packed.{place_in, AreFronts, AreMade, ArePacks, HoldsFront, IsBlockFor, IsMade, IsPackedAt}
 use Rattle.output_copies.specs.Steps.{raster_of}
 use Rattle.output_copies.proofs.Copied.{are_writable, filled_behind}

@@ -16,11 +16,11 @@ use Rattle.write_back.specs.Plans.{output_of}
 use Rattle.write_back.specs.View.{Blocks, TargetView, columns_of, sheet_in, shown, IsIn, IsMetOn}
 use Rattle.strip_copies.specs.declared.portions.Form.{Form}
 use Rattle.strip_copies.specs.declared.portions.Form.TheVariants.{Lines, Pieces, Records}
-use Rattle.strip_copies.specs.Copies.{IsRoomFor, IsTranslation}
+use Rattle.strip_copies.specs.Copies.{IsRoomFor, IsTranslation, IsHeldIn}
 use Rattle.strip_copies.specs.Portions.{makes_columns, TakesForm}
-use Rattle.strip_copies.specs.Rows.{IsHeldIn}
 use Rattle.output_copies.specs.declared.worker.Worker.{Worker}
-use Rattle.output_copies.specs.Copying.{IsFilled, MayEnd, TellsChange}
+use Rattle.output_copies.specs.Copying.{MayEnd, TellsChange}
+use Rattle.output_copies.specs.Filled.{IsFilled}
 use Rattle.output_copies.specs.Steps.{raster_of}
 
 -- the place of a band's block among the packed blocks of a portion: block by block, each band by band

@@ -3,6 +3,7 @@
 #![tactic(auto)]
 
 mod ahead;
+mod band_lines;
 mod calls;
 mod copying;
 mod documents;
@@ -10,7 +11,6 @@ mod making;
 mod output;
 mod packed;
 mod packed_output;
-mod parts;
 mod pieces;
 mod progress;
 mod records;

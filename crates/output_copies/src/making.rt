@@ -11,8 +11,8 @@ ghost use Rattle.output_copies.specs.Packed.{place_in, top_of, AreDone, AreMade,
 ghost use Rattle.output_copies.specs.Packed.{IsTask, IsWorker, MayAnswerByViews};
 ghost use Rattle.output_copies.specs.Parts.{ArePart, AreRead, BeginsWith};
 
+use crate::band_lines::{area, fill_front, nth_row};
 use crate::calls::each_at_once;
-use crate::parts::{area, fill_front, nth_row};
 use crate::pieces::make_pieces;
 use crate::records::make_records;
 use crate::worker::{Desk, PackedBlock, Task, Worker, extent_of};

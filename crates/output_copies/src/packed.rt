@@ -7,7 +7,8 @@ ghost use Rattle.write_back.specs.Forms.{cut_of};
 ghost use Rattle.write_back.specs.Packed.{block_len};
 ghost use Rattle.lane_teams.specs.Workers.{most_workers};
 ghost use Rattle.error_lines.specs.Progress.{progress};
-ghost use Rattle.output_copies.specs.Copying.{spoken, IsFilled, MayEnd, TellsChange};
+ghost use Rattle.output_copies.specs.Copying.{spoken, MayEnd, TellsChange};
+ghost use Rattle.output_copies.specs.Filled.{IsFilled};
 ghost use Rattle.output_copies.specs.Packed.{top_of, AreBlocksWritten, AreColumnsWritten, AreDone, AreMade, HasDone};
 ghost use Rattle.output_copies.specs.Packed.{IsPackedAt, IsTask, IsWorker, MayAnswer};
 

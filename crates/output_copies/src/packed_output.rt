@@ -11,7 +11,8 @@ ghost use Rattle.catalog.specs.Walk.{IsWalked};
 ghost use Rattle.write_back.specs.Plans.{output_of, IsNamedFor};
 ghost use Rattle.error_lines.specs.Progress.{progress};
 ghost use Rattle.error_lines.specs.Steps.{all_done, publishes, Goes};
-ghost use Rattle.output_copies.specs.Copying.{spoken, IsChanged, IsFilled, MayEnd, Puts, TellsChange};
+ghost use Rattle.output_copies.specs.Copying.{spoken, IsChanged, MayEnd, Puts, TellsChange};
+ghost use Rattle.output_copies.specs.Filled.{IsFilled};
 ghost use Rattle.output_copies.specs.Packed.{IsTask};
 ghost use Rattle.output_copies.specs.Steps.{files_by, raster_of, unless_quiet};
 

@@ -9,8 +9,8 @@ ghost use Rattle.output_copies.specs.Copying.{MayEnd, TellsChange};
 ghost use Rattle.output_copies.specs.Packed.{AreFronts, AreMade, ArePacks, IsDesk, IsTask};
 ghost use Rattle.output_copies.specs.Parts.{AreReadIn, BeginsWithIn};
 
+use crate::band_lines::{area, fill_piece, nth_row};
 use crate::making::{Portion, place_of};
-use crate::parts::{area, fill_piece, nth_row};
 use crate::worker::{Desk, PackedBlock, Task};
 use band_blocks::Block;
 use error_lines::Fault;

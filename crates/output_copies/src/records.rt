@@ -11,8 +11,8 @@ ghost use Rattle.output_copies.specs.Copying.{MayEnd, TellsChange};
 ghost use Rattle.output_copies.specs.Packed.{AreColumnFronts, AreMade, HasRows, HoldsFront, IsBlockFor, IsDesk, IsTask};
 ghost use Rattle.output_copies.specs.Parts.{AreReadIn, BeginsWithIn};
 
+use crate::band_lines::{area, fill_piece};
 use crate::making::{Portion, place_of};
-use crate::parts::{area, fill_piece};
 use crate::worker::{Desk, PackedBlock, Task};
 use band_blocks::Block;
 use error_lines::Fault;

@@ -12,7 +12,7 @@ ghost use Rattle.write_back.specs.Packed.{block_len, in_bytes, IsBlockOf, IsLine
 ghost use Rattle.output_copies.specs.Packed.{records_in, room_in, AreDone, IsBlockFor, IsDesk, IsTask, IsWorker};
 ghost use Rattle.output_copies.specs.Packed.{MayAnswer, MayAnswerByViews};
 
-use crate::parts::area;
+use crate::band_lines::area;
 use band_blocks::Block;
 use error_lines::Fault;
 use geotransform::{PixelType, Sample};

@@ -1,6 +1,7 @@
 use Rattle.std.proofs.Common.{◌≡◌, ℕ, zero, suc, ◌-◌, ◌<◌, Bool, List, [], ◌∷◌, ◌++◌, length, take, get_or, ap, refl, sym, ◌∙◌, Bor, subst, arith, lit<}
 use Rattle.std.specs.Prelude.{slice_get, option_map, Option, ◌==◌, false}
-use Rattle.outside.specs.Paths.{is_kept, is_other, dereferenced, with_part, parts_of, joined}
+use Rattle.outside.specs.Paths.{is_kept, is_other, with_part, parts_of, joined}
+use Rattle.outside.specs.Plain.{dereferenced}
 use Rattle.std.proofs.lemmas.Str.{IsCharBoundary-after_ascii}
 use Rattle.std.specs.Str.{IsUtf8, IsCharBoundary}
 

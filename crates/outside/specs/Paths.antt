@@ -1,17 +1,12 @@
 -- Paths and their normal forms, by their parts.
 use Rattle.std.specs.Prelude.{ℕ, ◌≡◌, ◌≤◌, ◌==◌, ◌-◌, Bool, false, not, ◌||◌, List, [], ◌∷◌, ◌++◌, length, take, drop}
-use Rattle.std.specs.Prelude.{map, flat_map, codes, bytes_eq, slice_get, Option, Some, None, if◌then◌else◌}
+use Rattle.std.specs.Prelude.{flat_map, codes, bytes_eq, slice_get, Option, Some, None, if◌then◌else◌}
 use Rattle.std.specs.List.{slice_split}
 use Rattle.lists_and_answers.specs.Bytes.{slash}
-use denote.Ref.{Bor}
 
 -- The most bytes of a name.
 abbrev pub longest_name : ℕ
 longest_name = 4096
-
--- the parts that references stand for
-abbrev pub dereferenced : List (Bor (List ℕ)) → List (List ℕ)
-dereferenced parts = map (λ p. p.now) parts
 
 -- a part is there, and it isn't `..`
 abbrev pub is_other : Option (List ℕ) → Bool

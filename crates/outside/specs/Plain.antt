@@ -1,6 +1,7 @@
 -- Paths that are their own normal form, by the first bytes of their parts, and texts that add the same parts.
-use Rattle.std.specs.Prelude.{◌≡◌, ℕ, ◌==◌, Bool, true, false, not, ◌||◌, ◌&&◌, if◌then◌else◌}
-use Rattle.std.specs.Prelude.{List, Option, Some, None, [], ◌∷◌, ◌++◌}
+use denote.Ref.{Bor}
+use Rattle.std.specs.Prelude.{◌≡◌, ℕ, ◌==◌, Bool, true, false, not, ◌||◌, ◌&&◌, if◌then◌else◌, List, Option, Some, None}
+use Rattle.std.specs.Prelude.{[], ◌∷◌, ◌++◌, map}
 use Rattle.lists_and_answers.specs.Bytes.{point, slash}
 use Rattle.outside.specs.Paths.{parts_of, pieces, is_kept}
 
@@ -38,3 +39,7 @@ add_the_same text other =
 abbrev pub adds_all : List ℕ → Type 0
 adds_all text =
     (before : List (List ℕ)) → is_kept before ≡ false → parts_of false before (pieces text) ≡ before ++ pieces text
+
+-- the parts that references stand for
+abbrev pub dereferenced : List (Bor (List ℕ)) → List (List ℕ)
+dereferenced parts = map (λ p. p.now) parts

@@ -2,8 +2,9 @@
 ghost use Rattle.std.specs.Prelude.{◌≡◌, ◌<◌, ◌≤◌, true, false, length, option_map, string_bytes, [], ◌∷◌};
 ghost use Rattle.std.specs.Prelude.{◌-◌, if◌then◌else◌, drop, slice_index, IfOk, IfSome, OnOk};
 ghost use Rattle.std.specs.List.{prefix_len};
-ghost use Rattle.outside.specs.Paths.{dereferenced, with_part, parts_of, pieces, joined, normal, is_kept, is_absolute};
-ghost use Rattle.outside.specs.Plain.{are_plain, are_plain_behind, behind_slash, is_in_part, add_the_same, adds_all};
+ghost use Rattle.outside.specs.Paths.{with_part, parts_of, pieces, joined, normal, is_kept, is_absolute};
+ghost use Rattle.outside.specs.Plain.{dereferenced, are_plain, are_plain_behind, behind_slash, is_in_part};
+ghost use Rattle.outside.specs.Plain.{add_the_same, adds_all};
 
 use crate::Text;
 use memchr::memchr;

@@ -21,7 +21,8 @@ use Rattle.translate_plan.specs.Plan.{Planned, IsPlan, out_pixel, shown, shown_c
 use Rattle.strip_copies.specs.declared.holding.Holding.{Holding}
 use Rattle.strip_copies.specs.declared.pieces.Piece.{Piece}
 use Rattle.strip_copies.specs.Pieces.{is_copied, lies_on, piece_rect, source_rect, IsPiece}
-use Rattle.strip_copies.specs.Rows.{nearest, IsHeldIn, IsHolding, IsSample, IsStrip}
+use Rattle.strip_copies.specs.Rows.{nearest, IsHolding, IsSample, IsStrip}
+use Rattle.strip_copies.specs.Copies.{IsHeldIn}
 use Rattle.strip_copies.proofs.Samples.{held_sample}
 use Rattle.strip_copies.proofs.Straight.{shown_own, wide_of}
 use Rattle.strip_copies.proofs.Told.{any_default, held_of}

@@ -11,14 +11,12 @@ ghost use Rattle.catalog.specs.Pixels.{pixel_of_name};
 ghost use Rattle.catalog.specs.Places.{row_by_row};
 ghost use Rattle.nearest_window.specs.Lanes.{room_of};
 ghost use Rattle.nearest_window.specs.Right.{TellsChangeIn};
-ghost use Rattle.nearest_window.specs.Shown.{IsWindow};
-ghost use Rattle.lane_teams.specs.Ready.{AreLanesReady};
-ghost use Rattle.lane_teams.specs.Turns.{OnlyReadByViews};
+ghost use Rattle.nearest_window.specs.Windows.{IsWindow};
+ghost use Rattle.lane_teams.specs.Ready.{AreLanesReady, OnlyReadByViews};
 ghost use Rattle.translate_plan.specs.Plan.{out_pixel};
 ghost use Rattle.translate_plan.specs.declared.band.OutBand.{OutBand};
-ghost use Rattle.strip_copies.specs.Copies.{IsTranslation};
+ghost use Rattle.strip_copies.specs.Copies.{IsTranslation, IsHeldIn};
 ghost use Rattle.strip_copies.specs.Pieces.{copies, is_copied, lies_on, piece_rect, source_rect, IsCopied, IsPiece};
-ghost use Rattle.strip_copies.specs.Rows.{IsHeldIn};
 
 use crate::direct::hold_all;
 use crate::holding::Holding;

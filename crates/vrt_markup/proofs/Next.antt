@@ -3,7 +3,7 @@ use Rattle.std.proofs.Common.{◌≡◌, ℕ, zero, suc, ◌-◌, ◌<◌, ◌�
 use Rattle.vrt_markup.specs.Items.{item_at, Item, bad, comment, run, open_tag, close_tag, Tag, is_equal}
 use Rattle.lists_and_answers.specs.Answers.{◌>>=◌}
 use Rattle.vrt_markup.specs.Forest.{Forest, stop, Read, with_text, with_element, inner_by, nodes_step, nodes_by, nodes}
-use Rattle.vrt_markup.specs.Views.{IsShorter}
+use Rattle.vrt_markup.specs.Fronts.{IsShorter}
 use Rattle.vrt_markup.specs.declared.fault.VrtFault.{VrtFault}
 use Rattle.vrt_markup.specs.declared.fault.VrtFault.TheVariants.{BadText, Limit}
 use Rattle.vrt_markup.proofs.Shorter.{item_short}

@@ -5,7 +5,8 @@ use Rattle.vrt_markup.specs.Items.{item_at, bad, comment, run, open_tag, close_t
 use Rattle.lists_and_answers.specs.Answers.{◌>>=◌}
 use Rattle.vrt_markup.specs.Forest.{Forest, stop, text, element, Read, with_text, with_element, nodes, inner, read_as, over, all_white, is_all_white, text_of, child_of, decoded}
 use Rattle.vrt_markup.specs.Views.{past}
-use Rattle.vrt_markup.specs.Kept.{seen, worded, first_child, stepped, Fails, Gives}
+use Rattle.vrt_markup.specs.Kept.{seen, worded, first_child, Fails, Gives}
+use Rattle.vrt_markup.specs.Fronts.{stepped}
 use Rattle.vrt_markup.specs.declared.fault.VrtFault.{VrtFault}
 use Rattle.vrt_markup.specs.declared.fault.VrtFault.TheVariants.{BadText, Limit}
 use Rattle.vrt_markup.proofs.EndTags.{end_item, equal_itself}
@@ -59,7 +60,7 @@ opened_fails g m T d n t tag e (Err k) h = err_same _ _ e k h
 pub read_open : {A B : Type 0} (g : Forest → A) (m : Forest → B) (h : B → Forest → A) (T d : ℕ) (n t : List ℕ) (tag : Tag) (r : List ℕ) (v : B) (s : List ℕ) → ((i f : Forest) → g (element (T - length t) tag i f) ≡ h (m i) f) → open_tag tag r ≡ item_at t → d < 64 → Ok (v, s) ≡ read_as m (inner T d tag r) → read_as g (nodes T d n t) ≡ read_as (h v) (nodes T d n s)
 read_open g m h T d n t tag r v s same e less inside = ap (read_as g) (at_open T d n t tag r e less) ∙ opened_ok g m h T d n t tag v s same (inner T d tag r) inside
 
--- an element that has only elements: its parts so far, and whether its text is blank
+-- an element that has only elements: its parts so far, and whether its text is all white
 abbrev ElementStep : Type 0 → Type 0
 ElementStep S = S → ℕ → Tag → Forest → Result S VrtFault
 
@@ -79,17 +80,17 @@ bind_end : {A : Type 0} (x : Result A VrtFault) → (x >>= λ a. Ok a) ≡ x
 bind_end (Ok a) = refl
 bind_end (Err e) = refl
 
-pub seen_run : {S : Type 0} (step : ElementStep S) (kept : Result S VrtFault) (blank : Bool) (T d : ℕ) (n t raw r : List ℕ) → run raw r ≡ item_at t → read_as (seen step kept blank) (nodes T d n t) ≡ read_as (seen step kept (blank && is_all_white raw)) (nodes T d n r)
-seen_run step kept blank T d n t raw r e = read_run (seen step kept blank) (seen step kept (blank && is_all_white raw)) T d n t raw r (λ f. ap (λ b. (kept >>= λ s. over step s f, b)) (and_assoc blank (is_all_white raw) (all_white f))) e
+pub seen_run : {S : Type 0} (step : ElementStep S) (kept : Result S VrtFault) (white : Bool) (T d : ℕ) (n t raw r : List ℕ) → run raw r ≡ item_at t → read_as (seen step kept white) (nodes T d n t) ≡ read_as (seen step kept (white && is_all_white raw)) (nodes T d n r)
+seen_run step kept white T d n t raw r e = read_run (seen step kept white) (seen step kept (white && is_all_white raw)) T d n t raw r (λ f. ap (λ b. (kept >>= λ s. over step s f, b)) (and_assoc white (is_all_white raw) (all_white f))) e
 
-pub seen_close : {S : Type 0} (step : ElementStep S) (kept : Result S VrtFault) (blank : Bool) (T d : ℕ) (n t o r : List ℕ) → close_tag o r ≡ item_at t → is_equal o n ≡ true → read_as (seen step kept blank) (nodes T d n t) ≡ Ok ((kept, blank), r)
-seen_close step kept blank T d n t o r e same = read_close (seen step kept blank) T d n t o r e same ∙ ap (λ k. Ok ((k, blank && true), r)) (bind_end kept) ∙ ap (λ b. Ok ((kept, b), r)) (and_true blank)
+pub seen_close : {S : Type 0} (step : ElementStep S) (kept : Result S VrtFault) (white : Bool) (T d : ℕ) (n t o r : List ℕ) → close_tag o r ≡ item_at t → is_equal o n ≡ true → read_as (seen step kept white) (nodes T d n t) ≡ Ok ((kept, white), r)
+seen_close step kept white T d n t o r e same = read_close (seen step kept white) T d n t o r e same ∙ ap (λ k. Ok ((k, white && true), r)) (bind_end kept) ∙ ap (λ b. Ok ((kept, b), r)) (and_true white)
 
-pub seen_end : {S : Type 0} (step : ElementStep S) (kept : Result S VrtFault) (blank : Bool) (T d : ℕ) (n t r : List ℕ) → t ≡ 60 ∷ 47 ∷ n ++ 62 ∷ r → is_name n ≡ true → read_as (seen step kept blank) (nodes T d n t) ≡ Ok ((kept, blank), r)
-seen_end step kept blank T d n t r e named = seen_close step kept blank T d n t n r (end_item t n r e named) (equal_itself n)
+pub seen_end : {S : Type 0} (step : ElementStep S) (kept : Result S VrtFault) (white : Bool) (T d : ℕ) (n t r : List ℕ) → t ≡ 60 ∷ 47 ∷ n ++ 62 ∷ r → is_name n ≡ true → read_as (seen step kept white) (nodes T d n t) ≡ Ok ((kept, white), r)
+seen_end step kept white T d n t r e named = seen_close step kept white T d n t n r (end_item t n r e named) (equal_itself n)
 
-pub seen_open : {S : Type 0} (step : ElementStep S) (kept : Result S VrtFault) (blank : Bool) (T d : ℕ) (n t : List ℕ) (tag : Tag) (r : List ℕ) (now : Result S VrtFault) (s : List ℕ) → open_tag tag r ≡ item_at t → d < 64 → Ok (now, s) ≡ read_as (stepped step kept (T - length t) tag) (inner T d tag r) → read_as (seen step kept blank) (nodes T d n t) ≡ read_as (seen step now blank) (nodes T d n s)
-seen_open step kept blank T d n t tag r now s e less inside = read_open (seen step kept blank) (stepped step kept (T - length t) tag) (λ k. seen step k blank) T d n t tag r now s (λ i f. ap (λ k. (k, blank && all_white f)) (bind_assoc kept (λ p. step p (T - length t) tag i) (λ p. over step p f))) e less inside
+pub seen_open : {S : Type 0} (step : ElementStep S) (kept : Result S VrtFault) (white : Bool) (T d : ℕ) (n t : List ℕ) (tag : Tag) (r : List ℕ) (now : Result S VrtFault) (s : List ℕ) → open_tag tag r ≡ item_at t → d < 64 → Ok (now, s) ≡ read_as (stepped step kept (T - length t) tag) (inner T d tag r) → read_as (seen step kept white) (nodes T d n t) ≡ read_as (seen step now white) (nodes T d n s)
+seen_open step kept white T d n t tag r now s e less inside = read_open (seen step kept white) (stepped step kept (T - length t) tag) (λ k. seen step k white) T d n t tag r now s (λ i f. ap (λ k. (k, white && all_white f)) (bind_assoc kept (λ p. step p (T - length t) tag i) (λ p. over step p f))) e less inside
 
 -- an element that holds text alone
 pub worded_run : (front : List ℕ) (child : Option ℕ) (T d : ℕ) (n t raw r : List ℕ) → run raw r ≡ item_at t → read_as (worded front child) (nodes T d n t) ≡ read_as (worded (front ++ decoded raw) child) (nodes T d n r)

@@ -13,8 +13,8 @@ use Rattle.vrt_profile.specs.Means.{BandParts, DatasetParts, no_band_parts, once
 use Rattle.vrt_markup.specs.Kept.{kept_of}
 use Rattle.vrt_profile.specs.Seen.{band_by, one_more}
 use Rattle.vrt_profile.specs.Parts.{IsBandParts, IsDatasetParts}
-use Rattle.vrt_profile.specs.declared.parts.BandPart.{BandPart}
-use Rattle.vrt_profile.specs.declared.parts.BandPart.TheVariants.{NoData, Simple, Complex, Past, Unknown}
+use Rattle.vrt_profile.specs.declared.elements.BandPart.{BandPart}
+use Rattle.vrt_profile.specs.declared.elements.BandPart.TheVariants.{NoData, Simple, Complex, Past, Unknown}
 use Rattle.vrt_markup.specs.declared.fault.VrtFault.{VrtFault}
 use Rattle.vrt_markup.specs.declared.fault.VrtFault.TheVariants.{BadNumber, Unsupported, Limit}
 use Rattle.vrt_profile.proofs.Tables.{bind_ok, ok_same, cond_err}
@@ -98,11 +98,11 @@ abbrev sources_of : BandParts → Result BandValue VrtFault → List SourceValue
 sources_of p (Ok b) = b.sources
 sources_of p (Err e) = p.sources
 
-band_by_ok : (kind : Result PixelType VrtFault) (placed sourced blank : Bool) (parts : Result BandParts VrtFault) (b : BandValue) → band_by kind placed sourced blank parts ≡ Ok b → (p : BandParts) × (parts ≡ Ok p) × (p.sources ≡ b.sources)
-band_by_ok kind placed sourced blank parts b h =
+band_by_ok : (kind : Result PixelType VrtFault) (placed sourced white : Bool) (parts : Result BandParts VrtFault) (b : BandValue) → band_by kind placed sourced white parts ≡ Ok b → (p : BandParts) × (parts ≡ Ok p) × (p.sources ≡ b.sources)
+band_by_ok kind placed sourced white parts b h =
     let k = bind_ok kind _ b h in
     let place = bind_ok (wants placed BadNumber) _ b k.2 in
-    let plain = bind_ok (wants (sourced && blank) Unsupported) _ b place.2 in
+    let plain = bind_ok (wants (sourced && white) Unsupported) _ b place.2 in
     let p = bind_ok parts (band_end k.0) b plain.2 in
     (p.0, p.1, ap (λ (r : Result BandValue VrtFault). sources_of p.0 r) p.2)
 

@@ -13,9 +13,9 @@ use Rattle.vrt_profile.specs.Values.{DocumentValue, IsDocument, IsDecimal}
 use Rattle.vrt_writing.specs.Spelled.{words, written, indent, pair_text, escaped, geo_text, srs_markup, geo_markup, bands_markup, size_pairs, parts_markup, dataset_markup, spelled}
 use Rattle.vrt_profile.specs.Means as means_of
 use Rattle.vrt_profile.specs.Means.{DatasetParts, no_dataset_parts, dataset_step, with_srs, srs_by, with_geo, geo_by, root_of}
-use Rattle.vrt_profile.specs.Seen.{dataset_by}
+use Rattle.vrt_profile.specs.Seen.{dataset_by, markup_means}
 use Rattle.vrt_markup.specs.Tree.{Root, root_item, root_at, end_by, end_at, markup_of}
-use Rattle.vrt_profile.specs.Document.{means, markup_means, document_of}
+use Rattle.vrt_profile.specs.Document.{means, document_of}
 use Rattle.vrt_markup.specs.declared.fault.VrtFault.{VrtFault}
 use Rattle.vrt_markup.specs.declared.fault.VrtFault.TheVariants.{MissingPart, BadNumber, Limit}
 use Rattle.vrt_profile.proofs.KeptTexts.{is_text}

@@ -9,7 +9,8 @@ use Rattle.geotransform.proofs.Written.{keeps_append, keeps_then}
 use Rattle.vrt_markup.specs.Items.{Pair}
 use Rattle.vrt_profile.specs.Values.{trillion, Rectangle, SourceValue, BandValue, DocumentValue}
 use Rattle.vrt_profile.specs.declared.rectangle.LutPair.{LutPair}
-use Rattle.vrt_writing.specs.Spelled.{Markup, both, group, written, indent, tag_text, pair_text, end_text, lut_pair_text, next_pair_text, lut_text, source_text, band_text, bands_text, file_markup, source_band_markup, rectangle_markup, nodata_markup, scale_markup, lut_markup, srs_markup, geo_markup, band_pairs, source_tag, place_markup, scaling_markup, source_markup, sources_markup, band_markup, bands_markup, parts_markup, dataset_markup, size_pairs, spelled, Appends, AppendsPairs, AppendsTag}
+use Rattle.vrt_writing.specs.Spelled.{Markup, both, group, written, indent, tag_text, pair_text, end_text, lut_pair_text, next_pair_text, lut_text, file_markup, source_band_markup, rectangle_markup, nodata_markup, scale_markup, lut_markup, srs_markup, geo_markup, band_pairs, source_tag, place_markup, scaling_markup, source_markup, sources_markup, band_markup, bands_markup, parts_markup, dataset_markup, size_pairs, spelled}
+use Rattle.vrt_writing.specs.Appended.{source_text, band_text, bands_text, Appends, AppendsPairs, AppendsTag}
 use Rattle.vrt_writing.proofs.Pieces.{two, three, appends_both, keeps_appends}
 
 pub keeps_trans : (a b c : List ℕ) → KeepsFront a b → KeepsFront b c → KeepsFront a c

@@ -9,7 +9,8 @@ use Rattle.lists_and_answers.specs.Growth.{KeepsFront}
 use Rattle.geotransform.proofs.Written.{keeps_itself, keeps_append, keeps_then}
 use Rattle.vrt_markup.specs.Items.{Pair}
 use Rattle.vrt_profile.specs.Values.{Rectangle}
-use Rattle.vrt_writing.specs.Spelled.{Markup, nothing, both, words, empty, written, indent, tag_text, pair_text, end_text, pair, flag_text, escaped, file_markup, Appends, AppendsPairs, FileOpens, scale_markup, part_text, micro_text, rectangle_pairs}
+use Rattle.vrt_writing.specs.Spelled.{Markup, nothing, both, words, empty, written, indent, tag_text, pair_text, end_text, pair, flag_text, escaped, file_markup, scale_markup, part_text, micro_text, rectangle_pairs}
+use Rattle.vrt_writing.specs.Appended.{Appends, AppendsPairs, FileOpens}
 
 pub two : (a b c e f : List ℕ) → b ≡ a ++ e → c ≡ b ++ f → c ≡ a ++ (e ++ f)
 two a b c e f p q = q ∙ ap (λ (x : List ℕ). x ++ f) p ∙ append_assoc a e f

@@ -2,7 +2,8 @@
 use Rattle.std.proofs.Common.{◌≡◌, ℕ, zero, suc, ◌-◌, ◌*◌, ◌<◌, Bool, true, false, List, ◌∷◌, ◌++◌, length, replicate, flat_map, Option, None, Result, Ok, refl, sym, ap, ◌∙◌, append_assoc}
 use Rattle.vrt_markup.specs.Items.{plain_len, run, open_tag, item_at, Pair, Tag}
 use Rattle.vrt_markup.specs.Forest.{Forest, stop, Read, nodes, inner, read_as, is_all_white, text_of, child_of}
-use Rattle.vrt_markup.specs.Kept.{seen, stepped}
+use Rattle.vrt_markup.specs.Kept.{seen}
+use Rattle.vrt_markup.specs.Fronts.{stepped}
 use Rattle.vrt_writing.specs.Spelled.{Markup, nothing, both, words, empty, group, written, indent, pair_text, escaped}
 use Rattle.vrt_writing.specs.Reread.{IsTagName, words_forest}
 use Rattle.vrt_markup.specs.declared.fault.VrtFault.{VrtFault}
@@ -13,7 +14,7 @@ use Rattle.vrt_writing.proofs.Openings.{IsOpening, opening_item, ends_open, ends
 abbrev pub ElementStep : Type 0 → Type 0
 ElementStep S = S → ℕ → Tag → Forest → Result S VrtFault
 
--- what is known of an element whose text so far is blank, where these bytes are left of it behind the end of a line
+-- what is known of an element whose text so far is all white, where these bytes are left of it behind the end of a line
 abbrev pub after : {S : Type 0} → ElementStep S → ℕ → ℕ → List ℕ → Result S VrtFault → List ℕ → Result ((Result S VrtFault × Bool) × List ℕ) VrtFault
 after step total level name kept rest = read_as (seen step kept true) (nodes total level name (10 ∷ rest))
 
@@ -44,7 +45,7 @@ spaces_blank (suc k) = spaces_blank k
 line_item : (level : ℕ) (x : List ℕ) → item_at (10 ∷ indent level ++ 60 ∷ x) ≡ run (10 ∷ indent level) (60 ∷ x)
 line_item level x = run_again 10 (indent level) x refl (ap suc (spaces_plain (2 * level) x))
 
--- before a tag nothing is known but that the text is blank
+-- before a tag nothing is known but that the text is all white
 line_start : {S : Type 0} (step : ElementStep S) (total depth level : ℕ) (name : List ℕ) (kept : Result S VrtFault) (x : List ℕ) → after step total depth name kept (indent level ++ 60 ∷ x) ≡ read_as (seen step kept true) (nodes total depth name (60 ∷ x))
 line_start step total depth level name kept x =
     seen_run step kept true total depth name (10 ∷ indent level ++ 60 ∷ x) (10 ∷ indent level) (60 ∷ x) (sym (line_item level x))

@@ -18,7 +18,8 @@ use Rattle.write_back.specs.declared.forms.Writer.{Writer}
 use Rattle.write_back.specs.declared.forms.Writer.TheVariants.{Raw, Hgt}
 use Rattle.write_back.specs.Forms.{cut_of, AreHeld}
 use Rattle.write_back.specs.Packed.{block_len, in_bytes}
-use Rattle.write_back.specs.Pieces.{item_head, plain_of, spots_of}
+use Rattle.write_back.specs.Pieces.{spots_of}
+use Rattle.write_back.specs.Spots.{item_head, plain_of}
 use Rattle.write_back.proofs.Lines.{written_below, written_here, written_past}
 use Rattle.write_back.proofs.Runs.{put_below, put_len, put_past, put_stands, same_sample}
 use Rattle.write_back.proofs.States.{whole_written}

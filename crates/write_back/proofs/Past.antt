@@ -10,7 +10,7 @@ use Rattle.esri_hdr.specs.declared.header_parts.Layout.{Layout}
 use Rattle.esri_hdr.specs.declared.header_parts.Layout.TheVariants.{Bil, Bip, Bsq}
 use Rattle.esri_hdr.specs.Head.{Head}
 use Rattle.interleaved_raw.specs.Raw.{strided_at}
-use Rattle.hgt_tiles.specs.Samples.{item_of, row_of}
+use Rattle.hgt_tiles.specs.Samples.{item_at, row_of}
 use Rattle.dted_records.specs.Places.{record_of}
 use Rattle.dted_records.specs.Records.{elevation_in}
 use Rattle.band_blocks.specs.declared.key.BlockKey.{BlockKey}
@@ -19,12 +19,15 @@ use Rattle.write_back.specs.declared.fault.TargetFault.{TargetFault}
 use Rattle.write_back.specs.declared.forms.Writer.{Writer}
 use Rattle.write_back.specs.declared.forms.Writer.TheVariants.{Raw, Hgt, Dted}
 use Rattle.write_back.specs.Columns.{Cell}
-use Rattle.write_back.specs.Forms.{band_total, cut_of, line_total, most_calls, needed_of, pixel_sample, pixel_sample_by, column_total, HasPixel, IsFormed, IsSpot, TellsMet}
-use Rattle.write_back.specs.Overlay.{line_key, line_rect, overlay, AreKept, IsBlockWritten, IsLineSet, IsWindow, Stays}
+use Rattle.write_back.specs.Forms.{band_total, cut_of, line_total, most_calls, needed_of, pixel_sample, pixel_sample_by, column_total, IsFormed, TellsMet}
+use Rattle.write_back.specs.Spots.{HasPixel, IsSpot, plain_of, IsRunWritten}
+use Rattle.write_back.specs.Overlay.{line_key, overlay, AreKept}
+use Rattle.write_back.specs.Stores.{line_rect, IsBlockWritten, IsLineSet, IsWindow, Stays, StoreState, AreMet, Changes, Serves}
 use Rattle.write_back.specs.Packed.{block_rect, in_bytes, packed_in, packed_rect, IsApart, IsBlockOf, IsLined, Passes}
-use Rattle.write_back.specs.Pieces.{is_woven, plain_of, planes_by, spots_by, spots_of, AreBytes, IsRunWritten}
-use Rattle.write_back.specs.State.{StoreState, AreMet, Changes, HasDraft, IsRight, Serves}
-use Rattle.write_back.specs.View.{SheetView, target_of, IsSoundOn, Puts}
+use Rattle.write_back.specs.Pieces.{is_woven, planes_by, spots_by, spots_of, AreBytes}
+use Rattle.write_back.specs.State.{HasDraft, IsRight}
+use Rattle.write_back.specs.View.{SheetView, target_of, IsSoundOn}
+use Rattle.write_back.specs.Served.{PutsWindow}
 use Rattle.write_back.specs.Files.{header_in, HasHeader, IsForm, IsTarget}
 use Rattle.write_back.proofs.Blocks.{raw_written, tile_put}
 use Rattle.write_back.proofs.CellBlocks.{cell_written}
@@ -35,7 +38,7 @@ use Rattle.write_back.proofs.Windowed.{right_after}
 -- the bytes of a block have as many samples as the block
 pub length_in : (w : Writer) (bytes : List ℕ) → length (in_bytes w bytes) ≡ (cut_of w).spots
 length_in (Raw h) bytes = length-map-range_with_len (strided_at (plain_of h) bytes) 0 (spots_of h)
-length_in (Hgt side) bytes = length-map-range_with_len (item_of bytes) 0 side
+length_in (Hgt side) bytes = length-map-range_with_len (item_at bytes) 0 side
 length_in (Dted c) bytes = length-map-range_with_len (elevation_in c.head bytes) 0 c.head.points
 
 -- blocks that are lines of one band: as many bands as the raster has, and as many samples as it has columns
@@ -239,14 +242,14 @@ passes_of w w' s t old new is now same a pool one calls =
     (record { sound = a.sound; output = refl; name = a.name; pool = pool; names = a.told; reads = a.reads; one = one; calls = calls }))
 
 pub past_of : (w w' : Writer) (band block : ℕ) (bytes : List ℕ) (s t : StoreState) (old new : SheetView) → blocks_at w s ≡ old → blocks_at w' t ≡ new → w' ≡ w → IsRight w s.told s.len s.draft s.pool → band < band_total w → t.told ≡ s.told
-    → Changes w (IsWindow w band (block_rect w block) (in_bytes w bytes)) s t → ((cut_of w).by_columns ≡ true → AreMet w band (block_rect w block).x (block_rect w block).w s t) → Puts band (packed_rect old.output block) (packed_in old.output bytes) s.told t.told old new
+    → Changes w (IsWindow w band (block_rect w block) (in_bytes w bytes)) s t → ((cut_of w).by_columns ≡ true → AreMet w band (block_rect w block).x (block_rect w block).w s t) → PutsWindow band (packed_rect old.output block) (packed_in old.output bytes) s.told t.told old new
 past_of w w' band block bytes s t old new is now same right less told changed met =
-    subst (λ (v : SheetView). Puts band (packed_rect v.output block) (packed_in v.output bytes) s.told t.told old new) is
+    subst (λ (v : SheetView). PutsWindow band (packed_rect v.output block) (packed_in v.output bytes) s.told t.told old new) is
     (put_of w w' band (block_rect w block) (in_bytes w bytes) s t old new is now same right less told changed met)
 
 -- a target whose data took such a block
 pub target_past : (band : ℕ) (rect : Rect) (samples : List ℤ) (told told' : Option Files) (r r' c c' w w' : ℕ) (s n : SheetView) (header : Option (Option (List ℕ) × List ℕ)) (done : Result (Unit {0}) TargetFault) (fault : Option TargetFault) → IsTarget told (target_of s header None)
-    → Passes s n told told' r r' c c' w w' → OnOk done (Puts band rect samples told told' s n) → fault ≡ result_err done → IsTarget told' (target_of n header fault)
+    → Passes s n told told' r r' c c' w w' → OnOk done (PutsWindow band rect samples told told' s n) → fault ≡ result_err done → IsTarget told' (target_of n header fault)
 target_past band rect samples told told' r r' c c' w w' s n header done fault was kept put is = record {
   form = subst IsForm (sym kept.output) was.form;
   sound = subst (λ o. IsSoundOn o n) (sym kept.output) kept.sound;

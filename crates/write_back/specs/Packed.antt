@@ -12,8 +12,9 @@ use Rattle.dted_records.specs.Written.{record_bytes}
 use Rattle.write_back.specs.declared.forms.Writer.{Writer}
 use Rattle.write_back.specs.declared.forms.Writer.TheVariants.{Raw, Hgt, Dted}
 use Rattle.write_back.specs.Forms.{cut_of}
-use Rattle.write_back.specs.Overlay.{line_rect}
-use Rattle.write_back.specs.Pieces.{plain_of, spots_of}
+use Rattle.write_back.specs.Stores.{line_rect}
+use Rattle.write_back.specs.Pieces.{spots_of}
+use Rattle.write_back.specs.Spots.{plain_of}
 use Rattle.write_back.specs.View.{Output, Blocks, Rows, SheetView, calls_of, IsSoundOn}
 
 -- the bytes of a block

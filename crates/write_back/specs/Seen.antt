@@ -10,8 +10,8 @@ use Rattle.write_back.specs.declared.packing.PackedForm.TheVariants as forms
 use Rattle.write_back.specs.declared.sheet.Kind.{Kind}
 use Rattle.write_back.specs.declared.sheet.Kind.TheVariants as kinds
 use Rattle.write_back.specs.declared.store.Store.{Store}
-use Rattle.write_back.specs.Columns.{cell_of}
-use Rattle.write_back.specs.State.{StoreState, store_state}
+use Rattle.write_back.specs.Columns.{cell_with_front}
+use Rattle.write_back.specs.Stores.{StoreState, store_state}
 use Rattle.write_back.specs.Unwritten.{known}
 use Rattle.write_back.specs.View.{Blocks, Rows, SheetView}
 
@@ -48,4 +48,4 @@ sheet_of bytes len name (kinds.Rows r) = record {
 abbrev pub writer_by : PackedForm → Writer
 writer_by (forms.Lines h) = writers.Raw h
 writer_by (forms.Tile side) = writers.Hgt side
-writer_by (forms.Columns h) = writers.Dted (cell_of h (head_text h))
+writer_by (forms.Columns h) = writers.Dted (cell_with_front h (head_text h))

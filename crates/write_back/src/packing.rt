@@ -13,7 +13,8 @@ ghost use Rattle.write_back.specs.declared.forms.Writer.TheVariants.{Raw};
 ghost use Rattle.write_back.specs.Columns.{is_elevation};
 ghost use Rattle.write_back.specs.Forms.{cut_of, AreHeld};
 ghost use Rattle.write_back.specs.Packed.{block_len, in_bytes, is_packed, IsApart, IsBlockOf, IsLined};
-ghost use Rattle.write_back.specs.Pieces.{is_woven, plain_of};
+ghost use Rattle.write_back.specs.Pieces.{is_woven};
+ghost use Rattle.write_back.specs.Spots.{plain_of};
 ghost use Rattle.write_back.specs.Plans.{output_of};
 ghost use Rattle.write_back.specs.View.{Blocks};
 

@@ -2,13 +2,15 @@
 ghost use Rattle.std.specs.Prelude.{◌≡◌, ◌<◌, ◌≤◌, ◌+◌, [], ℕ, List, length, true, Some, OnOk};
 ghost use Rattle.outside.specs.Causes.{HasCause};
 ghost use Rattle.write_back.specs.Forms.{band_total, cut_of, most_calls, needed_of, IsFormed};
-ghost use Rattle.write_back.specs.Overlay.{line_key, IsBlockWritten, IsWindow};
+ghost use Rattle.write_back.specs.Overlay.{line_key};
+ghost use Rattle.write_back.specs.Stores.{IsBlockWritten, IsWindow, AreMet, Changes, Serves};
 ghost use Rattle.write_back.specs.Packed.{block_len, block_rect, in_bytes, IsApart, IsBlockOf};
 ghost use Rattle.write_back.specs.Packed.{packed_blocks, packed_in, packed_len, packed_rect, AreApart, IsPackedOf};
 ghost use Rattle.write_back.specs.Packed.{Passes};
 ghost use Rattle.write_back.specs.Seen.{known_in, state_of};
-ghost use Rattle.write_back.specs.State.{AreMet, Changes, IsSound, Serves};
-ghost use Rattle.write_back.specs.View.{bands_of, IsRightOn, IsSoundOn, Puts};
+ghost use Rattle.write_back.specs.State.{IsSound};
+ghost use Rattle.write_back.specs.View.{bands_of, IsRightOn, IsSoundOn};
+ghost use Rattle.write_back.specs.Served.{PutsWindow};
 
 use crate::TargetFault;
 use crate::sheet::{Kind, Sheet};
@@ -106,7 +108,7 @@ impl<F: Folder> Sheet<F> {
         requires whole { IsPackedOf self.old.output block bytes.now }
         ensures kept { Passes self.old self.new (F.names folder.old) (F.names folder.new) (F.read_calls folder.old)
             (F.read_calls folder.new) (F.write_calls folder.old) (F.write_calls folder.new) writes.old writes.new }
-        ensures put { OnOk result (Puts band (packed_rect self.old.output block)
+        ensures put { OnOk result (PutsWindow band (packed_rect self.old.output block)
             (packed_in self.old.output bytes.now) (F.names folder.old) (F.names folder.new) self.old self.new) }
         ensures cause { HasCause TargetFault.FolderFault (F.faults folder.old) (F.faults folder.new) result }
     {

@@ -5,7 +5,8 @@ use Rattle.outside.specs.Streams.{Gets, GetsPart}
 use Rattle.error_lines.specs.declared.faults.Fault.{Fault}
 use Rattle.error_lines.specs.Progress.{progress}
 use Rattle.write_back.specs.Forms.{cut_of}
-use Rattle.output_copies.specs.Copying.{spoken, IsFilled, TellsChange}
+use Rattle.output_copies.specs.Copying.{spoken, TellsChange}
+use Rattle.output_copies.specs.Filled.{IsFilled}
 use Rattle.output_copies.specs.Packed.{top_of, AreBlocksWritten}
 use Rattle.output_copies.proofs.Columned.{blocks_begin, blocks_end}
 use Rattle.output_copies.proofs.Changes.{handed_on, out_tells}

@@ -1,7 +1,8 @@
 use Rattle.std.proofs.Common.{◌≡◌, ◌∙◌, ◌+◌, ◌-◌, ◌<◌, [], ap, refl, sym, subst, arith, get_or, length, ℕ, Option}
 use Rattle.std.proofs.lemmas.List.{get_or_default}
 use Rattle.outside.specs.Outside.{Files}
-use Rattle.output_copies.specs.Copying.{IsFilled, TellsChange}
+use Rattle.output_copies.specs.Copying.{TellsChange}
+use Rattle.output_copies.specs.Filled.{IsFilled}
 use Rattle.output_copies.specs.Packed.{place_in, IsMade, IsPackedAt}
 use Rattle.output_copies.proofs.Changes.{handed_on}
 use Rattle.output_copies.proofs.Copied.{filled_next, filled_to}

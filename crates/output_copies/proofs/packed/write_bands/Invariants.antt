@@ -1,5 +1,5 @@
 use Rattle.std.proofs.Common.{◌≡◌, ◌+◌, ◌≤◌, []}
-use Rattle.output_copies.specs.Copying.{IsFilled}
+use Rattle.output_copies.specs.Filled.{IsFilled}
 use Rattle.output_copies.proofs.packed.write_bands.Given as goal
 
 -- the bands so far

@@ -6,7 +6,8 @@ use Rattle.outside.specs.Streams.{GetsPart}
 use Rattle.error_lines.specs.Progress.{progress}
 use Rattle.error_lines.specs.declared.faults.Fault.TheVariants.{Memory}
 use Rattle.error_lines.specs.declared.faults.Fault.{Fault}
-use Rattle.output_copies.specs.Copying.{spoken, IsFilled, TellsChange}
+use Rattle.output_copies.specs.Copying.{spoken, TellsChange}
+use Rattle.output_copies.specs.Filled.{IsFilled}
 use Rattle.output_copies.specs.Packed.{IsWorker}
 use Rattle.output_copies.proofs.Changes.{handed_on, memory_tells}
 use Rattle.output_copies.proofs.Ends.{ends_after, ends_later, ends_memory, ends_so, err_is}

@@ -5,7 +5,8 @@ use Rattle.std.proofs.lemmas.List.FromFn.{length-map-range_with_len}
 use Rattle.esri_hdr.specs.Head.{IsHead}
 use Rattle.interleaved_raw.specs.Raw.{strided_at}
 use Rattle.outside.specs.Outside.{put_at}
-use Rattle.write_back.specs.Pieces.{plain_of, spots_of, IsRunWritten}
+use Rattle.write_back.specs.Pieces.{spots_of}
+use Rattle.write_back.specs.Spots.{plain_of, IsRunWritten}
 use Rattle.write_back.proofs.Runs.{on_ok, piece_written, run_within}
 use Rattle.write_back.proofs.writer.put_line_bytes.Goals as goal
 

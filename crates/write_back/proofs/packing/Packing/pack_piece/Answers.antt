@@ -6,7 +6,8 @@ use Rattle.band_blocks.specs.Blocks.{BlockView, samples_from, written}
 use Rattle.write_back.specs.declared.forms.Writer.{Writer}
 use Rattle.write_back.specs.Forms.{cut_of}
 use Rattle.write_back.specs.Packed.{block_len}
-use Rattle.write_back.specs.Pieces.{plain_of, spots_of}
+use Rattle.write_back.specs.Pieces.{spots_of}
+use Rattle.write_back.specs.Spots.{plain_of}
 use Rattle.write_back.specs.Seen.{writer_by}
 use Rattle.write_back.proofs.Packs.{front_count, front_is, lines_pieced, piece_fits, tile_pieced}
 use Rattle.write_back.proofs.States.{in_range}

@@ -3,7 +3,8 @@ use Rattle.std.specs.Prelude.{OnOk}
 use Rattle.std.specs.List.{range_with_len}
 use Rattle.esri_hdr.specs.Head.{Head, sample_len}
 use Rattle.interleaved_raw.specs.Raw.{needed_of, strided_at}
-use Rattle.write_back.specs.Pieces.{plain_of, planes_of, spots_of, IsRunWritten}
+use Rattle.write_back.specs.Pieces.{planes_of, spots_of}
+use Rattle.write_back.specs.Spots.{plain_of, IsRunWritten}
 use Rattle.write_back.proofs.writer.LineWriter.put_line.Goals as goal
 
 pub put_line_bytes-requires-clause-band : goal.put_line_bytes-requires-clause-band

@@ -1,6 +1,6 @@
 use Rattle.std.proofs.Common.{◌≡◌, ◌+◌, ◌-◌, ◌*◌, ap, ◌∙◌, length, take, drop, arith}
 use Rattle.std.proofs.lemmas.List.{length-take-le, length-drop}
-use Rattle.output_copies.proofs.parts.nth_row.Goals as goal
+use Rattle.output_copies.proofs.band_lines.nth_row.Goals as goal
 
 pub returns-clause-row : goal.returns-clause-row
 returns-clause-row c = ap (λ k. take k (drop (c.args.n * c.args.width) c.args.samples.now)) (omega arith)

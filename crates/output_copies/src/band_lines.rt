@@ -3,7 +3,8 @@ ghost use Rattle.std.specs.Prelude.{◌≡◌, ◌≤◌, ◌+◌, ◌-◌, ◌*
 ghost use Rattle.lane_teams.specs.Ready.{AreLanesReady};
 ghost use Rattle.strip_copies.specs.Copies.{IsRoomFor, IsTranslation};
 ghost use Rattle.strip_copies.specs.Pieces.{piece_rect, IsCopied, IsPiece};
-ghost use Rattle.output_copies.specs.Copying.{IsFilled, MayEnd, TellsChange};
+ghost use Rattle.output_copies.specs.Copying.{MayEnd, TellsChange};
+ghost use Rattle.output_copies.specs.Filled.{IsFilled};
 ghost use Rattle.output_copies.specs.Parts.{ArePart, AreRead, AreReadIn, BeginsWith, BeginsWithIn};
 
 use error_lines::Fault;
