@@ -63,6 +63,7 @@ pub fn whole_rect(size: Size) -> MicroRect
 fn rect_rules(rect: MicroRect)
     ensures rules { IsRectangle rect }
 {
+    // This is read for the proof: the rules of a rectangle.
     let _x = rect.x;
 }
 
