@@ -11,7 +11,7 @@ use Rattle.outside.specs.Outside.{Files}
 use Rattle.outside.specs.Paths.{IsName, normal}
 use Rattle.vrt_profile.specs.Values.{SourceValue, BandValue, DocumentValue}
 use Rattle.vrt_profile.specs.Cover.{axis_at, lines_of, cover_of}
-use Rattle.vrt_profile.specs.Value.{value_of, given_of, mosaic_pixel}
+use Rattle.vrt_profile.specs.Value.{source_value, given_of, mosaic_pixel}
 use Rattle.vrt_profile.specs.Resolve.{related, resolved_text}
 use Rattle.catalog.specs.Dataset.{DatasetHead}
 use Rattle.catalog.specs.Drivers.{Dataset, document_of}
@@ -53,15 +53,15 @@ cover_is p base name b size i j across down =
 
 -- a source that changes no pixel gives it, or nothing where there is none
 given_by : (p : Planned) (base name : List ℕ) (b : OutBand) (inside : Bool) (c r : ℕ) (pixels : ℕ → ℕ → ℤ)
-    → unwrap_or (option_map (clamp b.kind) (option_or None (cond inside (both_of c r) None >>= λ place. value_of (shown_source p base name b) (pixels place.0 place.1)))) (unwrap_or b.nodata (pos 0)) ≡ cond inside (clamp b.kind (pixels c r)) (unwrap_or b.nodata (pos 0))
-unfolding value_of
+    → unwrap_or (option_map (clamp b.kind) (option_or None (cond inside (both_of c r) None >>= λ place. source_value (shown_source p base name b) (pixels place.0 place.1)))) (unwrap_or b.nodata (pos 0)) ≡ cond inside (clamp b.kind (pixels c r)) (unwrap_or b.nodata (pos 0))
+unfolding source_value
 given_by p base name b true c r pixels = refl
 given_by p base name b false c r pixels = refl
 
 band_is : (p : Planned) (base name : List ℕ) (b : OutBand) (size : Size) (pixels : ℕ → ℕ → ℤ) (i j : ℕ) → i < p.size.w → j < p.size.h
     → mosaic_pixel (shown_band p base name b) (λ s. given_of s p.size size pixels) i j ≡ cond (is_in_raster size (shown_column p i) (shown_line p j)) (clamp b.kind (pixels (unsigned_abs (shown_column p i)) (unsigned_abs (shown_line p j)))) (unwrap_or b.nodata (pos 0))
 band_is p base name b size pixels i j across down =
-    ap (λ (o : Option (ℕ × ℕ)). unwrap_or (option_map (clamp b.kind) (option_or None (o >>= λ place. value_of (shown_source p base name b) (pixels place.0 place.1)))) (unwrap_or b.nodata (pos 0))) (cover_is p base name b size i j across down)
+    ap (λ (o : Option (ℕ × ℕ)). unwrap_or (option_map (clamp b.kind) (option_or None (o >>= λ place. source_value (shown_source p base name b) (pixels place.0 place.1)))) (unwrap_or b.nodata (pos 0))) (cover_is p base name b size i j across down)
     ∙ given_by p base name b (is_in_raster size (shown_column p i) (shown_line p j)) (unsigned_abs (shown_column p i)) (unsigned_abs (shown_line p j)) pixels
 
 -- the one item of a list

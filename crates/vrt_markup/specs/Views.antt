@@ -4,7 +4,7 @@ use Rattle.vrt_markup.specs.declared.text.Words.{Words}
 use Rattle.vrt_markup.specs.declared.text.Plain.{Plain}
 use Rattle.vrt_markup.specs.declared.text.Plain.TheVariants.{Lent, Own}
 use Rattle.vrt_markup.specs.declared.fault.VrtFault.{VrtFault}
-use Rattle.vrt_markup.specs.Forest.{Read}
+use Rattle.vrt_markup.specs.Forest.{ForestRead}
 use Rattle.vrt_markup.specs.Tree as tree
 use Rattle.vrt_markup.specs.declared.root.Root.{Root}
 use Rattle.vrt_markup.specs.Items as items
@@ -34,7 +34,7 @@ Shortens (Run front rest) text = length rest.now < length text
 Shortens (Open tag rest) text = length rest.now < length text
 Shortens (Close name rest) text = length rest.now < length text
 
-abbrev pub past : Read → Result (List ℕ) VrtFault
+abbrev pub past : ForestRead → Result (List ℕ) VrtFault
 past (Ok x) = Ok x.1
 past (Err e) = Err e
 

@@ -7,7 +7,7 @@ use Rattle.std.proofs.lemmas.Bool.Decides.{nat_tests}
 use Rattle.lists_and_answers.specs.Answers.{◌>>=◌, wants}
 use Rattle.geotransform.specs.declared.types.PixelType.{PixelType}
 use Rattle.vrt_markup.specs.Items.{Tag, attribute}
-use Rattle.vrt_markup.specs.Forest.{Forest, stop, text, element, Read, read_as, over, all_white}
+use Rattle.vrt_markup.specs.Forest.{Forest, stop, text, element, ForestRead, read_as, over, all_white}
 use Rattle.vrt_profile.specs.Values.{SourceValue, BandValue, IsSource, IsBand, IsDecimal, source_count}
 use Rattle.vrt_profile.specs.Means.{BandParts, DatasetParts, no_band_parts, once, with_source, band_parts, band_step, band_part_of, band_end, band_of, kind_in, is_placed, is_sourced}
 use Rattle.vrt_markup.specs.Kept.{kept_of}
@@ -116,7 +116,7 @@ band_fits number taken tag b f some h =
     let all = fits_over taken (no_band_parts taken) p.0 f (record { same = refl; few = omega (arith, some) }) p.1 in
     omega (arith, all.few, ap length p.2)
 
-pub bands_fit : (number taken : ℕ) (tag : Tag) (band : Result BandValue VrtFault) (rest : List ℕ) (x : Read) → taken ≤ 262144 → Ok (band, rest) ≡ read_as (band_of number taken tag) x → IfOk band (λ b. taken + length b.sources ≤ 262144)
+pub bands_fit : (number taken : ℕ) (tag : Tag) (band : Result BandValue VrtFault) (rest : List ℕ) (x : ForestRead) → taken ≤ 262144 → Ok (band, rest) ≡ read_as (band_of number taken tag) x → IfOk band (λ b. taken + length b.sources ≤ 262144)
 bands_fit number taken tag (Err e) rest x some h = tt
 bands_fit number taken tag (Ok b) rest (Err e) some h = absurd cc
 bands_fit number taken tag (Ok b) rest (Ok y) some h = band_fits number taken tag b y.0 some (sym (ap (λ (r : Result (Result BandValue VrtFault × List ℕ) VrtFault). value_of r) h))

@@ -50,13 +50,13 @@ tag_text level name pairs = indent level ++ (less_than ∷ name ++ flat_map pair
 abbrev pub end_text : List ℕ → List ℕ
 end_text name = codes "</" ++ (name ++ codes ">\n")
 
-abbrev pub written : ℕ → Markup → List ℕ
-written level nothing = []
-written level (both a b) = written level a ++ written level b
-written level (words name pairs text) = tag_text level name pairs ++ (greater_than ∷ text ++ end_text name)
-written level (empty name pairs) = tag_text level name pairs ++ codes "/>\n"
-written level (group name pairs inside) = tag_text level name pairs ++
-    (codes ">\n" ++ (written (suc level) inside ++ (indent level ++ end_text name)))
+abbrev pub markup_text : ℕ → Markup → List ℕ
+markup_text level nothing = []
+markup_text level (both a b) = markup_text level a ++ markup_text level b
+markup_text level (words name pairs text) = tag_text level name pairs ++ (greater_than ∷ text ++ end_text name)
+markup_text level (empty name pairs) = tag_text level name pairs ++ codes "/>\n"
+markup_text level (group name pairs inside) = tag_text level name pairs ++
+    (codes ">\n" ++ (markup_text (suc level) inside ++ (indent level ++ end_text name)))
 
 -- Numbers have no trailing zeros. A millionth is 180,000,000,000 ticks, a part of 10^12 is 180,000.
 unfoldable pub micro_text : ℤ → List ℕ
@@ -169,4 +169,4 @@ dataset_markup d = group (codes "VRTDataset") (size_pairs d.size) (parts_markup 
 
 -- the text of a document
 unfoldable pub spelled : DocumentValue → List ℕ
-spelled d = written 0 (dataset_markup d)
+spelled d = markup_text 0 (dataset_markup d)
