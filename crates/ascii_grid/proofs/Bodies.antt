@@ -10,7 +10,8 @@ use Rattle.ascii_grid.specs.declared.faults.GridFault.{GridFault}
 use Rattle.ascii_grid.specs.declared.faults.GridFault.TheVariants.{TooFew}
 use Rattle.lists_and_answers.specs.Answers.{◌>>=◌}
 use Rattle.ascii_grid.specs.Keys.{shape_of}
-use Rattle.ascii_grid.specs.Scan.{IsBody, AreRowsAt, body_closed, closed}
+use Rattle.ascii_grid.specs.Scan.{IsBody, AreRowsAt}
+use Rattle.ascii_grid.specs.Scanning.{body_closed, closed}
 
 abbrev closes : Shape → Result Shape GridFault
 closes s = Ok s

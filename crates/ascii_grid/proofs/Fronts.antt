@@ -13,7 +13,8 @@ use Rattle.geotransform.proofs.RoundTrip.{AreDigits, digits-cons, sign_none}
 use Rattle.ascii_grid.specs.declared.faults.GridFault.{GridFault}
 use Rattle.ascii_grid.specs.declared.head_parts.Shape.{Shape}
 use Rattle.ascii_grid.specs.declared.head_parts.Stage.TheVariants.{InBody}
-use Rattle.ascii_grid.specs.Values.{value_in, is_value, is_whole_text, whole_value, has_value}
+use Rattle.ascii_grid.specs.Values.{value_in, is_value, is_whole_text, whole_value}
+use Rattle.ascii_grid.specs.Scanning.{has_value}
 use Rattle.ascii_grid.specs.Scan.{add_token, body_step, step}
 use Rattle.ascii_grid.specs.Row.{value_or_zero, or_zero}
 use Rattle.ascii_grid.proofs.Again.{value_from}

@@ -7,7 +7,8 @@ use Rattle.geotransform.specs.Decimal.{Decimal, parts_of, whole_of, is_decimal, 
 use Rattle.ascii_grid.specs.declared.faults.GridFault.TheVariants.{BadToken}
 use Rattle.geotransform.specs.Types.{when_in}
 use Rattle.geotransform.specs.declared.types.PixelType.TheVariants.{Int32}
-use Rattle.ascii_grid.specs.Values.{nodata_in, other_nodata}
+use Rattle.ascii_grid.specs.Values.{nodata_in}
+use Rattle.ascii_grid.specs.Scanning.{other_nodata}
 
 some_parts : (o : Option Decimal) (f : Decimal → Option ℤ) (n : ℤ) → (o >>= f) ≡ Some n → is_some_decimal o ≡ true
 some_parts None f n h = absurd (cc)

@@ -11,7 +11,8 @@ use Rattle.std.proofs.lemmas.List.{append-nil, take_all, append_assoc}
 use Rattle.std.proofs.Math.Seq.{take-append_seam}
 use Rattle.ascii_grid.specs.declared.faults.GridFault.{GridFault}
 use Rattle.ascii_grid.specs.Tokens.{Token, tokens_from, is_dark, token, next}
-use Rattle.ascii_grid.specs.Scan.{Scanned, Open, Read, Reaches, then_byte, fed, add_byte, add_token, add_tokens, ended, is_open, push}
+use Rattle.ascii_grid.specs.Scan.{Scanned, Open, Read, then_byte, fed, add_byte, add_token, ended, is_open, push}
+use Rattle.ascii_grid.specs.Scanning.{Reaches, add_tokens}
 
 -- a step after a piece
 pub reaches_step : (start s t : Scanned) (bytes : List ℕ) (i : ℕ) (d c : ℕ) → i < length bytes → c ≡ get_or bytes i d → Reaches s (fed start (take i bytes)) → Reaches t (then_byte s c) → Reaches t (fed start (take (i + 1) bytes))

@@ -10,7 +10,8 @@ use Rattle.std.proofs.lemmas.Bool.Decides.{nat_tests}
 use Rattle.lists_and_answers.specs.Texts.{is_white}
 use Rattle.ascii_grid.specs.Tokens.{Token, tokens_from, tokens, is_dark, token, next}
 use Rattle.ascii_grid.specs.Scan.{is_open, opened, passed, push}
-use Rattle.ascii_grid.specs.Row.{Row, Reading, put, row_ended, row_byte, row_fed, padded, row_of, value_or_zero, RowNow, Fills, reading, fresh, ended_from, ended_in}
+use Rattle.ascii_grid.specs.Row.{Row, Reading, put, row_ended, row_byte, row_fed, row_of, value_or_zero, RowNow, Fills, reading, fresh, ended_from, ended_in}
+use Rattle.ascii_grid.specs.Scanning.{padded}
 use Rattle.ascii_grid.proofs.Pieces.{rest_of, open_at, push_then, push_small, push_open, whole_token}
 
 abbrev pub put_all : Row → List Token → Row

@@ -9,7 +9,8 @@ use Rattle.ascii_grid.specs.declared.faults.GridFault.{GridFault}
 use Rattle.ascii_grid.specs.declared.faults.GridFault.TheVariants.{Memory}
 use Rattle.ascii_grid.specs.declared.head_parts.Stage.{Stage}
 use Rattle.ascii_grid.specs.Tokens.{next}
-use Rattle.ascii_grid.specs.Scan.{Scanned, State, Open, Read, Reaches, fed, add_byte, add_token, is_open, passed_over, scanned, with_read}
+use Rattle.ascii_grid.specs.Scan.{Scanned, State, Open, Read, fed, add_byte, add_token, is_open, passed_over, scanned}
+use Rattle.ascii_grid.specs.Scanning.{Reaches, with_read}
 use Rattle.ascii_grid.specs.Row.{Row, Reading, row_byte, row_fed, put}
 use Rattle.std.proofs.lemmas.List.Sums.{fold-append}
 use Rattle.ascii_grid.proofs.Pieces.{fed_more, open_at, stuck_bytes}

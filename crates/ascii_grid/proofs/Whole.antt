@@ -16,7 +16,8 @@ use Rattle.ascii_grid.specs.Faults.{IsMemory}
 use Rattle.ascii_grid.specs.Tokens.{Token, tokens}
 use Rattle.ascii_grid.specs.Values.{is_body_start, value_in}
 use Rattle.ascii_grid.specs.Keys.{key_of, with_value, shape_of}
-use Rattle.ascii_grid.specs.Scan.{Scanned, Read, add_tokens, step, body_step, closed, finished, grid_after, scan, start, fed, Reaches, answer_of, Reads, IsFaultOf}
+use Rattle.ascii_grid.specs.Scan.{Scanned, Read, step, body_step, scan, start, fed, answer_of, Reads, IsFaultOf}
+use Rattle.ascii_grid.specs.Scanning.{add_tokens, closed, finished, grid_after, Reaches}
 use Rattle.ascii_grid.specs.Grid.{Head, Grid, head_with, head_of, body_of, rows_of, grid_in, grid_of, grid_head, nothing}
 use Rattle.ascii_grid.proofs.Pieces.{stuck_tokens, stuck_bytes, fed_more, ends, ends_is}
 

@@ -98,12 +98,12 @@ AreRising least end [] = Unit {0}
 AreRising least end (p ∷ ps) = (least ≤ p) × (p < end) × AreRising (p + 1) end ps
 
 -- the value in column x, line y
-abbrev pub value_at : Grid → ℕ → ℕ → ℤ
-value_at g x y = get_or g.values (y * g.head.size.w + x) (pos 0)
+abbrev pub grid_value_at : Grid → ℕ → ℕ → ℤ
+grid_value_at g x y = get_or g.values (y * g.head.size.w + x) (pos 0)
 
 -- the value of a text in column x, line y, where it is a grid
 abbrev pub ascii_by : Result Grid GridFault → ℕ → ℕ → ℤ
-ascii_by (Ok g) x y = value_at g x y
+ascii_by (Ok g) x y = grid_value_at g x y
 ascii_by (Err f) x y = pos 0
 
 abbrev pub ascii_at : List ℕ → ℕ → ℕ → ℤ

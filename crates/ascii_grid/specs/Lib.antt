@@ -7,3 +7,5 @@ pub mod Faults
 pub mod Text
 pub mod Scan
 pub mod Row
+-- What private clauses, views and proofs speak of.
+pub mod Scanning

@@ -44,10 +44,6 @@ row_byte s c = if is_white c then record {
 abbrev pub row_fed : Reading → List ℕ → Reading
 row_fed s bytes = fold row_byte s bytes
 
--- what is missing is 0
-abbrev pub padded : Row → List ℤ
-padded r = take r.filled r.out ++ replicate (length r.out - r.filled) (pos 0)
-
 pub record RowNow : Type 0 where
   pub held : Open
   pub filled : ℕ

@@ -5,14 +5,14 @@ use Rattle.std.specs.List.{fold}
 use Rattle.lists_and_answers.specs.Answers.{◌>>=◌}
 use Rattle.lists_and_answers.specs.Texts.{is_white}
 use Rattle.ascii_grid.specs.declared.faults.GridFault.{GridFault}
-use Rattle.ascii_grid.specs.declared.faults.GridFault.TheVariants.{BadToken, TooFew, TooMany, Memory}
+use Rattle.ascii_grid.specs.declared.faults.GridFault.TheVariants.{BadToken, TooMany, Memory}
 use Rattle.ascii_grid.specs.declared.head_parts.Shape.{Shape}
 use Rattle.ascii_grid.specs.declared.head_parts.Stage.{Stage}
 use Rattle.ascii_grid.specs.declared.head_parts.Stage.TheVariants.{AtKey, AtValue, InBody}
 use Rattle.ascii_grid.specs.Tokens.{Token, next, most_kept}
 use Rattle.ascii_grid.specs.Values.{is_body_start, value_in}
 use Rattle.ascii_grid.specs.Keys.{key_of, with_value, shape_of}
-use Rattle.ascii_grid.specs.Grid.{Head, head_with, nothing, grid_head}
+use Rattle.ascii_grid.specs.Grid.{nothing, grid_head}
 
 -- a token of the body, n of which were read, the last of them before column x: what is read then, and whether the token
 -- is the first of a row
@@ -42,9 +42,6 @@ abbrev pub add_token : Read → Token → Result Read GridFault
 add_token r t = do
   next ← step r.stage t
   Ok (record { stage = next.0; rows = if next.1 then r.rows ++ t.at ∷ [] else r.rows })
-
-abbrev pub add_tokens : Result Read GridFault → List Token → Result Read GridFault
-add_tokens r ts = fold (λ (s : Result Read GridFault) t. s >>= λ r. add_token r t) r ts
 
 -- the token that is open: its first bytes, none where none is open
 pub record Open : Type 0 where
@@ -117,47 +114,9 @@ abbrev pub scanned : Option GridFault → Open → Stage → List ℕ → Scanne
 scanned None o stage rows = Ok (record { held = o; read = record { stage = stage; rows = rows } })
 scanned (Some f) o stage rows = Err f
 
--- one is the other, unless memory ran out
-abbrev pub Reaches : {A : Type 0} → Result A GridFault → Result A GridFault → Type 0
-Reaches got want = (got ≡ Err Memory) ⊎ (got ≡ want)
-
 abbrev pub answer_of : Scanned → Result (Unit {0}) GridFault
 answer_of (Ok s) = Ok tt
 answer_of (Err f) = Err f
-
--- what a body of n tokens says
-abbrev pub body_closed : Shape → ℕ → Result Shape GridFault
-body_closed s n = if n == s.w * s.h then Ok s else Err TooFew
-
--- what the head and the body say where the text ends here
-unfoldable pub closed : Stage → Result Shape GridFault
-closed (AtKey f) = do
-  s ← shape_of f
-  body_closed s 0
-closed (AtValue f k) = do
-  s ← shape_of f
-  body_closed s 0
-closed (InBody s n x) = body_closed s n
-
-unfoldable pub finished : Read → Result Head GridFault
-finished r = do
-  s ← closed r.stage
-  Ok (head_with s r.rows)
-
-abbrev pub with_rows : Result Stage GridFault → List ℕ → Result Read GridFault
-with_rows (Ok stage) rows = Ok (record { stage = stage; rows = rows })
-with_rows (Err f) rows = Err f
-
-abbrev pub with_read : Result (Unit {0}) GridFault → Read → Result Read GridFault
-with_read (Ok t) read = Ok read
-with_read (Err f) read = Err f
-
--- the answer behind all bytes
-abbrev pub grid_after : Scanned → Result Head GridFault
-grid_after s = (do
-  s ← s
-  r ← ended s
-  finished r)
 
 -- the scanner has read this text, if memory sufficed
 abbrev pub Reads : Scanned → List ℕ → Type 0

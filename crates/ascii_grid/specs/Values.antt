@@ -1,6 +1,6 @@
 -- What a token says.
-use Rattle.std.specs.Prelude.{ℕ, ℤ, pos, Bool, true, false, ◌&&◌, ◌||◌, List, [], ◌∷◌, length, codes, Option}
-use Rattle.std.specs.Prelude.{None, Result, Ok, Err, ok_or, nat_lt, nat_le, ◌==◌, if◌then◌else◌, int_lt, unsigned_abs}
+use Rattle.std.specs.Prelude.{ℕ, ℤ, pos, Bool, true, false, ◌&&◌, ◌||◌, List, [], ◌∷◌, length, codes, Option, Result}
+use Rattle.std.specs.Prelude.{Ok, Err, ok_or, nat_lt, nat_le, ◌==◌, if◌then◌else◌, int_lt, unsigned_abs}
 use Rattle.std.specs.List.{list_all}
 use Rattle.std.specs.Char.{is_ascii_digit}
 use Rattle.lists_and_answers.specs.Answers.{◌>>=◌}
@@ -34,10 +34,6 @@ step_in at text = do
 abbrev pub is_value : ℤ → Bool
 is_value n = is_in Int32 n
 
--- a NODATA that is no whole number
-abbrev pub other_nodata : ℕ → List ℕ → Result (Option ℤ) GridFault
-other_nodata at text = if is_decimal text || same_letters text (codes "nan") then Ok None else Err (BadToken at)
-
 -- a NODATA: none where the number isn't whole or isn't of the band
 unfoldable pub nodata_in : ℕ → List ℕ → Result (Option ℤ) GridFault
 nodata_in at text = if is_decimal text || same_letters text (codes "nan") then Ok (when_in Int32 (whole_of text))
@@ -55,10 +51,6 @@ is_whole_text text = let w = digits_at (sign_at text).1 in nat_le (length text) 
 
 abbrev pub whole_value : List ℕ → ℤ
 whole_value text = signed (sign_at text).0 (number (digits_at (sign_at text).1).0)
-
--- whether a text is a value of the body
-abbrev pub has_value : List ℕ → Bool
-has_value text = is_whole_text text && is_value (whole_value text)
 
 -- the value of a token of the body
 unfoldable pub value_in : ℕ → List ℕ → Result ℤ GridFault

@@ -1,7 +1,7 @@
 // A key and its value that stand in front of bytes.
 ghost use Rattle.std.specs.Prelude.{◌≡◌, ◌≤◌, ◌<◌, ◌-◌, ℕ, length, take, get_or, true, false, Some, IfSome};
 ghost use Rattle.lists_and_answers.specs.Texts.{is_white};
-ghost use Rattle.ascii_grid.specs.Tokens.{longest_token};
+ghost use Rattle.ascii_grid.specs.Scanning.{longest_token};
 ghost use Rattle.ascii_grid.specs.Values.{is_body_start};
 ghost use Rattle.ascii_grid.specs.Keys.{key_of};
 

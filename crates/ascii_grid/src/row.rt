@@ -4,9 +4,9 @@ ghost use Rattle.std.specs.Prelude.{◌||◌, ◌==◌, nat_le, min, drop};
 ghost use Rattle.lists_and_answers.specs.Places.{StandsAt};
 ghost use Rattle.lists_and_answers.specs.Texts.{is_white};
 ghost use Rattle.ascii_grid.specs.Scan.{is_open};
-ghost use Rattle.ascii_grid.specs.Tokens.{longest_token};
-ghost use Rattle.ascii_grid.specs.Row.{value_or_zero, put, reading, row_ended, row_byte, row_fed, padded, Fills};
-ghost use Rattle.ascii_grid.specs.Row.{row_of, ended_in, ended_from, fresh, HasRead};
+ghost use Rattle.ascii_grid.specs.Scanning.{longest_token, padded};
+ghost use Rattle.ascii_grid.specs.Row.{value_or_zero, put, reading, row_ended, row_byte, row_fed, Fills, row_of};
+ghost use Rattle.ascii_grid.specs.Row.{ended_in, ended_from, fresh, HasRead};
 
 use crate::open::Open;
 use crate::tokens::{LONGEST_TOKEN, dark_len, white_len};

@@ -5,13 +5,12 @@ ghost use Rattle.lists_and_answers.specs.Answers.{Gives};
 ghost use Rattle.lists_and_answers.specs.Texts.{is_white};
 ghost use Rattle.ascii_grid.specs.Faults.{IsMemory};
 ghost use Rattle.ascii_grid.specs.Grid.{grid_head, head_with, IsHead};
-ghost use Rattle.ascii_grid.specs.Tokens.{longest_token};
-ghost use Rattle.ascii_grid.specs.Values.{has_value};
+ghost use Rattle.ascii_grid.specs.Scanning.{longest_token, has_value, Reaches, grid_after, with_read, body_closed};
+ghost use Rattle.ascii_grid.specs.Scanning.{closed};
 ghost use Rattle.ascii_grid.specs.declared.head_parts.Stage.TheVariants.{AtKey};
 ghost use Rattle.lists_and_answers.specs.Places.{StandsAt};
-ghost use Rattle.ascii_grid.specs.Scan.{State, then_byte, fed, start, Reaches, answer_of, grid_after, AreRowsAt};
-ghost use Rattle.ascii_grid.specs.Scan.{with_read};
-ghost use Rattle.ascii_grid.specs.Scan.{ended, body_closed, closed, Reads, IsFaultOf, HasScanned, IsFaultIn};
+ghost use Rattle.ascii_grid.specs.Scan.{State, then_byte, fed, start, answer_of, AreRowsAt, ended, Reads, IsFaultOf};
+ghost use Rattle.ascii_grid.specs.Scan.{HasScanned, IsFaultIn};
 
 use crate::faults::GridFault;
 use crate::head::GridHead;
@@ -359,7 +358,7 @@ impl Scanner {
     }
 
     // What was read, where the text ends here.
-    #[tactic(auto, unfolding(crate::specs::Scan::finished), using(crate::proofs::Bodies::closed_rows))]
+    #[tactic(auto, unfolding(crate::specs::Scanning::finished), using(crate::proofs::Bodies::closed_rows))]
     fn end(mut self) -> Result<GridHead, GridFault>
         ensures answer { Reaches result (grid_after self) }
         ensures stays { (f : GridFault) → self ≡ Err f → result ≡ Err f }
@@ -412,7 +411,7 @@ fn body_closed(shape: Shape, n: u64) -> Result<Shape, GridFault>
 }
 
 // What a head without a body says at the text's end.
-#[tactic(auto, unfolding(crate::specs::Scan::closed))]
+#[tactic(auto, unfolding(crate::specs::Scanning::closed))]
 fn head_closed(found: Found) -> Result<Shape, GridFault>
     ensures value { result ≡ closed (AtKey found) }
     ensures some { IfOk result (λ s. 0 < s.w * s.h) }
@@ -424,7 +423,7 @@ fn head_closed(found: Found) -> Result<Shape, GridFault>
 }
 
 // What the head and the body say where the text ends here.
-#[tactic(auto, unfolding(crate::specs::Scan::closed))]
+#[tactic(auto, unfolding(crate::specs::Scanning::closed))]
 fn closed(stage: Stage) -> Result<Shape, GridFault>
     ensures value { result ≡ closed stage }
     ensures some { IfOk result (λ s. 0 < s.w * s.h) }

@@ -1,10 +1,10 @@
 // What a token changes.
 ghost use Rattle.std.specs.Prelude.{◌≡◌, ℕ, true, List, ◌≤◌, ◌<◌, ◌+◌, ◌*◌, ◌^◌, ◌++◌, ◌==◌, [], ◌∷◌, if◌then◌else◌};
 ghost use Rattle.std.specs.Prelude.{IfOk, IfErr, OnOk, OnErr, Ok, false};
-ghost use Rattle.ascii_grid.specs.Values.{has_value};
+ghost use Rattle.ascii_grid.specs.Scanning.{has_value, Reaches, with_rows, with_read};
 ghost use Rattle.ascii_grid.specs.Faults.{IsMemory};
 ghost use Rattle.ascii_grid.specs.declared.head_parts.Stage.TheVariants.{AtKey, InBody};
-ghost use Rattle.ascii_grid.specs.Scan.{Reaches, IsBody, AreRowsAt, add_token, with_rows, with_read};
+ghost use Rattle.ascii_grid.specs.Scan.{IsBody, AreRowsAt, add_token};
 
 use crate::faults::GridFault;
 use crate::head_parts::{Found, Shape, Stage};

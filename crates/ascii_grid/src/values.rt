@@ -7,9 +7,9 @@ ghost use Rattle.lists_and_answers.specs.Texts.{is_white};
 ghost use Rattle.geotransform.specs.Decimal.{IsRead, number, signed, ticks_of};
 ghost use Rattle.geotransform.specs.Types.{when_in};
 ghost use Rattle.geotransform.specs.declared.types.PixelType.TheVariants.{Int32};
-ghost use Rattle.ascii_grid.specs.Tokens.{longest_token};
-ghost use Rattle.ascii_grid.specs.Values.{is_body_start, side_in, coordinate_in, step_in, nodata_in, other_nodata};
-ghost use Rattle.ascii_grid.specs.Values.{is_whole_end, value_in, is_value, has_value};
+ghost use Rattle.ascii_grid.specs.Scanning.{longest_token, other_nodata, has_value};
+ghost use Rattle.ascii_grid.specs.Values.{is_body_start, side_in, coordinate_in, step_in, nodata_in, is_whole_end};
+ghost use Rattle.ascii_grid.specs.Values.{value_in, is_value};
 ghost use Rattle.ascii_grid.specs.Row.{value_or_zero};
 
 use crate::faults::GridFault;

@@ -14,7 +14,7 @@ use Rattle.outside.specs.Outside.{Files}
 use Rattle.interleaved_raw.proofs.Order.{ends_within}
 use Rattle.dted_records.specs.Head as dted
 use Rattle.dted_records.specs.Places as dted_places
-use Rattle.dted_records.specs.Records.{point_of}
+use Rattle.dted_records.specs.Records.{point_place_of}
 use Rattle.catalog.specs.declared.driver.Content.{Content}
 use Rattle.catalog.specs.declared.driver.Content.TheVariants.{File, Mosaic}
 use Rattle.catalog.specs.declared.driver.DriverHead.{DriverHead}
@@ -30,17 +30,18 @@ use Rattle.catalog.proofs.PixelLaws.{file_is_sample}
 use Rattle.catalog.proofs.Walked.{dataset_kept}
 use Rattle.band_blocks.specs.declared.key.BlockKey.{BlockKey}
 use Rattle.band_blocks.specs.declared.key.PixelKey.{PixelKey}
-use Rattle.band_blocks.specs.Contents.{driver_calls, content_calls, calls_of, most_calls, sample_type_of}
+use Rattle.band_blocks.specs.Contents.{driver_calls, content_calls, calls_of, most_calls}
+use Rattle.band_blocks.specs.Loaded.{sample_type_of, HasSample, place_of, bytes_per_sample}
 use Rattle.band_blocks.specs.Keys.{IsKeyOf, IsPixelKeyOf}
 use Rattle.band_blocks.specs.Open.{AreGood}
-use Rattle.band_blocks.specs.Samples.{HasPlaces, HasSample, IsDirect, IsOfType, place_of, bytes_per_sample}
+use Rattle.band_blocks.specs.Samples.{HasPlaces, IsDirect, IsOfType}
 use Rattle.band_blocks.proofs.Corners.{number_below}
 use Rattle.band_blocks.proofs.Loads.{told_by, told_kind, some_one, driver_in, file_of, long_enough, calls_within}
 use Rattle.band_blocks.proofs.Opened.{good_found, some_file}
 use Rattle.band_blocks.proofs.Parts.{tile_long}
 
 -- each elevation ends within the bytes that a cell must have
-elevation_within : (h : dted.Head) (x y : ℕ) → x < h.lines → y < h.points → dted_places.record_of h x + point_of h y + 2 ≤ dted_places.needed_of h
+elevation_within : (h : dted.Head) (x y : ℕ) → x < h.lines → y < h.points → dted_places.record_of h x + point_place_of h y + 2 ≤ dted_places.needed_of h
 elevation_within h x y column line =
     let big : (x + 1) * dted_places.record_len h ≤ h.lines * dted_places.record_len h = mul-le-mul (omega arith) (omega arith) in
     let e : (x + 1) * dted_places.record_len h ≡ x * dted_places.record_len h + dted_places.record_len h = grind arith in

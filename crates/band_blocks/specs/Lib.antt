@@ -7,4 +7,5 @@ pub mod Samples
 pub mod Open
 pub mod Spread
 -- What private clauses, views and proofs speak of.
+pub mod Loaded
 pub mod Views

@@ -4,13 +4,14 @@ ghost use Rattle.outside.specs.Causes.{HasCause, FailsWith, one_more};
 ghost use Rattle.catalog.specs.Drivers.{IsLongEnough};
 ghost use Rattle.catalog.specs.Pixels.{sample_in, IsHeadOf};
 ghost use Rattle.catalog.specs.Places.{row_by_row};
-ghost use Rattle.band_blocks.specs.Contents.{driver_calls, sample_type_of, Covers, IsPart};
+ghost use Rattle.band_blocks.specs.Contents.{driver_calls};
+ghost use Rattle.band_blocks.specs.Loaded.{sample_type_of, Covers, IsPart, HasSample, place_of, bytes_per_sample};
 ghost use Rattle.band_blocks.specs.Open.{IsUnchanged};
 ghost use Rattle.geotransform.specs.Types.{is_in};
 ghost use Rattle.lists_and_answers.specs.Places.{StandsAt};
 ghost use Rattle.dted_records.specs.Places.{record_of};
-ghost use Rattle.dted_records.specs.Records.{point_of};
-ghost use Rattle.band_blocks.specs.Samples.{HasPlaces, HasSample, place_of, bytes_per_sample};
+ghost use Rattle.dted_records.specs.Records.{point_place_of};
+ghost use Rattle.band_blocks.specs.Samples.{HasPlaces};
 ghost use Rattle.geotransform.specs.Limits.{most_side};
 
 use crate::grid::read_grid_row;
@@ -75,7 +76,7 @@ fn bytes_per_sample(driver: &DriverHead) -> usize
 fn elevation_place(head: &DtedHead, x: u32, y: u32) -> u64
     requires column { x < head.now.lines }
     requires line { y < head.now.points }
-    ensures place { result ≡ record_of head.now x + point_of head.now y }
+    ensures place { result ≡ record_of head.now x + point_place_of head.now y }
 {
     head.record_at(x) + 8 + 2 * (head.points - 1 - y) as u64
 }

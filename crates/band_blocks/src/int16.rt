@@ -6,8 +6,8 @@ ghost use Rattle.geotransform.specs.Types.{is_in};
 ghost use Rattle.geotransform.specs.declared.types.PixelType.TheVariants.{Int16};
 ghost use Rattle.dted_records.specs.Head as dted;
 ghost use Rattle.dted_records.specs.Places.{record_len, record_of};
-ghost use Rattle.dted_records.specs.Records.{dted_at, elevation, elevation_in, point_of, two_at};
-ghost use Rattle.hgt_tiles.specs.Samples.{hgt_at, item_of, row_bytes, row_of, sample_bytes};
+ghost use Rattle.dted_records.specs.Records.{dted_at, elevation, elevation_in, point_place_of, two_at};
+ghost use Rattle.hgt_tiles.specs.Samples.{hgt_at, item_at, row_bytes, row_of, sample_bytes};
 ghost use Rattle.lists_and_answers.specs.Places.{StandsAt};
 ghost use Rattle.band_blocks.specs.Blocks.{AreIn};
 
@@ -48,7 +48,8 @@ fn elevation_at(head: &DtedHead, bytes: &[u8], y: usize) -> i16
 // The elevation that two bytes give, which is that of a column and a line where they stand at its place.
 pub(crate) fn single_elevation(bytes: &[u8]) -> i16
     requires two { length bytes.now ≡ 2 }
-    ensures file { (h : dted.Head) (file : List ℕ) (x y : ℕ) → StandsAt file bytes.now (record_of h x + point_of h y) →
+    ensures file { (h : dted.Head) (file : List ℕ) (x y : ℕ) →
+        StandsAt file bytes.now (record_of h x + point_place_of h y) →
         result ≡ dted_at h file x y }
     ensures range { is_in Int16 result ≡ true }
 {
@@ -70,7 +71,7 @@ pub(crate) fn decode_elevations(head: &DtedHead, bytes: &[u8], cells: &mut [i16]
 // The sample of a tile at a place of its bytes.
 fn item_at(bytes: &[u8], i: usize) -> i16
     requires { i * 2 + 2 ≤ length bytes.now }
-    ensures value { result ≡ item_of bytes.now i }
+    ensures value { result ≡ item_at bytes.now i }
     ensures within { is_in Int16 result ≡ true }
 {
     let at = i * 2;

@@ -1,26 +1,27 @@
 -- How many bands and sources a mosaic has.
 use Rattle.std.proofs.Common.{◌≡◌, ◌∙◌, sym, ap, ℕ, zero, suc, ◌+◌, ◌*◌, ◌-◌, ◌<◌, ◌≤◌, Bool, true, false, ◌&&◌, List, [], ◌∷◌, ◌++◌, length, refl, arith, Option, Some, None, option_map, slice_get, nat_le, map, length-append, take, get_or, Ok, Err}
 use Rattle.std.specs.Prelude.{if◌then◌else◌}
+use Rattle.std.specs.Prelude.{ℤ, unsigned_abs, ◌^◌}
 use Rattle.std.specs.List.{All}
+use Rattle.std.specs.List.{filter_map, list_all, cons_option, AllByRecursion, range_with_len}
 use Rattle.std.proofs.lemmas.List.{take_more}
 use Rattle.std.proofs.lemmas.List.Elements.{recursion_from_All}
+use Rattle.std.proofs.lemmas.List.Elements.{filter_map-append}
 use Rattle.buildvrt.specs.declared.faults.BuildFault.TheVariants.{Limit}
-use Rattle.std.specs.Prelude.{ℤ, unsigned_abs, ◌^◌}
 use Rattle.geotransform.specs.Types.{is_in}
 use Rattle.geotransform.specs.declared.types.PixelType.{PixelType}
 use Rattle.geotransform.proofs.Ranges.{is_near}
-use Rattle.std.specs.List.{filter_map, list_all, cons_option, AllByRecursion, range_with_len}
 use Rattle.std.proofs.lemmas.List.FromFn.{length-range_with_len}
-use Rattle.std.proofs.lemmas.List.Elements.{filter_map-append}
 use Rattle.std.proofs.lemmas.Bool.Decides.{nat_tests}
 use Rattle.std.proofs.lemmas.List.Sums.{sum_by-cons}
 use Rattle.vrt_profile.specs.Values.{SourceValue, BandValue, Rectangle, source_count}
 use Rattle.catalog.specs.Dataset.{DatasetHead, IsDatasetHead}
 use Rattle.catalog.specs.declared.kind.BandHead.{BandHead}
 use Rattle.buildvrt.specs.Options.{Options}
-use Rattle.buildvrt.specs.Judging.{band_of, has_bands, numbers_or_all, taken_bands}
+use Rattle.buildvrt.specs.Judging.{numbered_band, has_bands, numbers_or_all, taken_bands}
 use Rattle.buildvrt.specs.Rectangles.{PatchValue, IsPatch}
-use Rattle.buildvrt.specs.Bands.{source_of, source_in, band_from, band_with, own_band, common_bands, separate_bands, bands_within, is_few, shown_count, FitsDocument}
+use Rattle.buildvrt.specs.Bands.{source_of, source_in, band_from, band_with, own_band, common_bands, separate_bands, bands_within, is_few, shown_count}
+use Rattle.buildvrt.specs.Limits.{FitsDocument}
 
 -- each input that isn't left out gives a source
 sources_by : (f : Rectangle → SourceValue) (r : Option Rectangle) (ss : List SourceValue) (rs : List Rectangle) → length ss ≡ length rs → length (cons_option (option_map f r) ss) ≡ length (cons_option r rs)
@@ -37,7 +38,7 @@ there [] k h = absurd (omega arith)
 there (b ∷ bs) zero h = (b, refl)
 there (b ∷ bs) (suc k) h = there bs k (omega arith)
 
-is_there : (h : DatasetHead) (n : ℕ) → 0 < length h.bands → nat_le n (length h.bands) ≡ true → (b : BandHead) × (band_of h n ≡ Some b)
+is_there : (h : DatasetHead) (n : ℕ) → 0 < length h.bands → nat_le n (length h.bands) ≡ true → (b : BandHead) × (numbered_band h n ≡ Some b)
 is_there h n some e =
     let less : n ≤ length h.bands = grind (arith, nat_tests) in
     there h.bands (n - 1) (omega arith)
@@ -48,7 +49,7 @@ both true false e = absurd cc
 both false b e = absurd cc
 
 -- each band that there is gives a band, with a source of each input that isn't left out
-with_one : (o : Options) (h : DatasetHead) (ps : List PatchValue) (n : ℕ) (b : BandHead) (bs : List BandValue) → band_of h n ≡ Some b → cons_option (band_with o h ps n) bs ≡ band_from o b n ps ∷ bs
+with_one : (o : Options) (h : DatasetHead) (ps : List PatchValue) (n : ℕ) (b : BandHead) (bs : List BandValue) → numbered_band h n ≡ Some b → cons_option (band_with o h ps n) bs ≡ band_from o b n ps ∷ bs
 with_one o h ps n b bs e = ap (λ (x : Option BandHead). cons_option (option_map (λ y. band_from o y n ps) x) bs) e
 
 pub bands_count : (o : Options) (h : DatasetHead) (ps : List PatchValue) (ns : List ℕ) → 0 < length h.bands → has_bands h ns ≡ true → length (filter_map (band_with o h ps) ns) ≡ length ns
@@ -73,10 +74,10 @@ bands_sources o h ps (n ∷ ns) some e =
     ap source_count (with_one o h ps n b.0 (filter_map (band_with o h ps) ns) b.1) ∙ one_band (band_from o b.0 n ps) (filter_map (band_with o h ps) ns) (shown_count ps) (length ns) one more
 
 -- one band for each input: each has a first band
-own_one : (o : Options) (p : PatchValue) (b : BandHead) (bs : List BandValue) → band_of p.head 1 ≡ Some b → cons_option (own_band o p) bs ≡ band_from o b 1 (p ∷ []) ∷ bs
+own_one : (o : Options) (p : PatchValue) (b : BandHead) (bs : List BandValue) → numbered_band p.head 1 ≡ Some b → cons_option (own_band o p) bs ≡ band_from o b 1 (p ∷ []) ∷ bs
 own_one o p b bs e = ap (λ (x : Option BandHead). cons_option (option_map (λ y. band_from o y 1 (p ∷ [])) x) bs) e
 
-first_band : (h : DatasetHead) → 0 < length h.bands → (b : BandHead) × (band_of h 1 ≡ Some b)
+first_band : (h : DatasetHead) → 0 < length h.bands → (b : BandHead) × (numbered_band h 1 ≡ Some b)
 first_band h some = there h.bands 0 some
 
 -- the first of the inputs, and those behind it

@@ -7,7 +7,8 @@ use Rattle.lists_and_answers.specs.Answers.{◌>>=◌}
 use Rattle.buildvrt.specs.Tiles.{TileValue}
 use Rattle.buildvrt.specs.Grids.{GridValue}
 use Rattle.buildvrt.specs.declared.faults.BuildFault.{BuildFault}
-use Rattle.buildvrt.specs.Rectangles.{PatchValue, patch_of, patches_of, with_patch, then_patches}
+use Rattle.buildvrt.specs.Rectangles.{PatchValue, patch_of, patches_of, with_patch}
+use Rattle.buildvrt.specs.Limits.{then_patches}
 
 -- one item more of those that are kept
 pub kept_next : {A B : Type 0} (f : A → Option B) (xs : List A) (i : ℕ) (x : A) (l k : List B) → i < length xs → x ≡ get_or xs i x → l ≡ filter_map f (take i xs) → k ≡ l ++ filter_map f (x ∷ []) → k ≡ filter_map f (take (i + 1) xs)

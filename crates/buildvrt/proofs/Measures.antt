@@ -14,7 +14,8 @@ use Rattle.geotransform.specs.Print.{unit}
 use Rattle.vrt_profile.specs.Values.{IsDecimal}
 use Rattle.buildvrt.specs.Tiles.{TileValue}
 use Rattle.buildvrt.specs.declared.grid.Measure.{Measure}
-use Rattle.buildvrt.specs.Grids.{measure, IsMeasure, IsStep, less_of, greater_of, least_from, greatest_from, sum_from}
+use Rattle.buildvrt.specs.Grids.{measure, IsStep, less_of, greater_of, least_from, greatest_from, sum_from}
+use Rattle.buildvrt.specs.Limits.{IsMeasure}
 
 -- the way of so many steps
 pub way_bound : (n : ℕ) (step : ℤ) → n ≤ 4194304 → unsigned_abs step < 10 ^ 12 * unit → unsigned_abs (pos n *ℤ step) ≤ 4194304 * (10 ^ 12 * unit)

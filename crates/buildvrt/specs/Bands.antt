@@ -1,9 +1,8 @@
 -- The bands of a mosaic and their sources.
-use Rattle.std.specs.Prelude.{ℕ, ℤ, ◌<◌, ◌≤◌, Bool, ◌&&◌, nat_le, List, [], ◌∷◌, length, Option, None, Some, option_map}
-use Rattle.std.specs.Prelude.{Result, Ok, Err, if◌then◌else◌}
+use Rattle.std.specs.Prelude.{ℕ, ℤ, Bool, ◌&&◌, nat_le, List, [], ◌∷◌, length, Option, None, Some, option_map, Result}
+use Rattle.std.specs.Prelude.{Ok, Err, if◌then◌else◌}
 use Rattle.std.specs.List.{filter_map}
 use Rattle.geotransform.specs.Types.{when_in}
-use Rattle.geotransform.specs.declared.types.PixelType.{PixelType}
 use Rattle.vrt_profile.specs.Values.{SourceValue, BandValue, Rectangle, source_count, most_sources}
 use Rattle.vrt_profile.specs.Cover.{whole}
 use Rattle.vrt_profile.specs.Built.{plain_source}
@@ -11,7 +10,7 @@ use Rattle.vrt_profile.specs.Resolve.{related}
 use Rattle.catalog.specs.Dataset.{DatasetHead}
 use Rattle.catalog.specs.declared.kind.BandHead.{BandHead}
 use Rattle.buildvrt.specs.Options.{Options}
-use Rattle.buildvrt.specs.Judging.{band_of, taken_bands}
+use Rattle.buildvrt.specs.Judging.{numbered_band, taken_bands}
 use Rattle.buildvrt.specs.Rectangles.{PatchValue}
 use Rattle.catalog.specs.declared.nodata.NodataWord.{NodataWord}
 use Rattle.catalog.specs.declared.nodata.NodataWord.TheVariants.{Absent, Remove, Number}
@@ -46,7 +45,7 @@ band_nodata (Some band) = band.nodata
 -- the source that shows the whole of an input's band in a rectangle
 abbrev pub source_of : Options → DatasetHead → ℕ → Rectangle → SourceValue
 source_of o h number shown = plain_source (related o.out h.name) number (whole h.size) shown
-    (source_nodata o.src_nodata (band_nodata (band_of h number)))
+    (source_nodata o.src_nodata (band_nodata (numbered_band h number)))
 
 -- the source of an input that isn't left out
 abbrev pub source_in : Options → ℕ → PatchValue → Option SourceValue
@@ -62,7 +61,7 @@ band_from o band number patches = record {
 
 -- the band of this number of a dataset, with these inputs
 abbrev pub band_with : Options → DatasetHead → List PatchValue → ℕ → Option BandValue
-band_with o h patches number = option_map (λ band. band_from o band number patches) (band_of h number)
+band_with o h patches number = option_map (λ band. band_from o band number patches) (numbered_band h number)
 
 -- one band for each chosen band of the reference, with all inputs
 abbrev pub common_bands : Options → DatasetHead → List PatchValue → List BandValue
@@ -91,9 +90,3 @@ bands_within bands = if is_few (length bands) (source_count bands) then Ok bands
 -- how many inputs aren't left out
 abbrev pub shown_count : List PatchValue → ℕ
 shown_count patches = length (filter_map (λ p. p.shown) patches)
-
--- bands that a document may have
-pub record FitsDocument (bands : List BandValue) : Type 0 where
-  pub some : 0 < length bands
-  pub few : length bands ≤ most_bands
-  pub sources : source_count bands ≤ most_sources

@@ -6,7 +6,7 @@ use Rattle.geotransform.specs.Geo.{Transform, transform_of, along, IsRaster, IsN
 use Rattle.geotransform.specs.Places.{half, rounded_up, sixteen_places}
 use Rattle.geotransform.specs.declared.types.Size.{Size}
 use Rattle.vrt_profile.specs.Values.{IsDecimal}
-use Rattle.buildvrt.specs.Options.{Options, IsGivenStep}
+use Rattle.buildvrt.specs.Options.{Options}
 use Rattle.buildvrt.specs.Tiles.{TileValue}
 use Rattle.buildvrt.specs.declared.options.Resolution.{Resolution}
 use Rattle.buildvrt.specs.declared.options.Resolution.TheVariants.{Highest, Lowest, Average, User}
@@ -130,35 +130,10 @@ grid_of o tiles = grid_by (extent_of o tiles) (steps_of o tiles)
 abbrev pub step_limit : ℕ
 step_limit = 10 ^ 35
 
--- far edges stay below so many ticks in magnitude
-abbrev pub edge_limit : ℕ
-edge_limit = 10 ^ 36
-
 -- the side of a mosaic's pixel is above 0 and below the limit
 pub record IsStep (v : ℤ) : Type 0 where
   pub above : pos 0 <ℤ v
   pub low : unsigned_abs v < step_limit
-
--- what the numbers of an input keep: a side is above 0 and below 10^12 units, its place is below 10^12 units in
--- magnitude, and its far edges lie at most 4,194,304 such sides away
-abbrev pub IsMeasure : Measure → ℤ → Type 0
-IsMeasure ColumnStep v = IsGivenStep v
-IsMeasure LineStep v = IsGivenStep v
-IsMeasure Left v = IsNear v
-IsMeasure Right v = unsigned_abs v < edge_limit
-IsMeasure Top v = IsNear v
-IsMeasure Bottom v = unsigned_abs v < edge_limit
-
-pub record IsSteps (steps : ℤ × ℤ) : Type 0 where
-  pub column : IsStep steps.0
-  pub line : IsStep steps.1
-
--- what an extent keeps, a given one or a union
-pub record IsReach (e : Extent) : Type 0 where
-  pub left : IsNear e.xmin
-  pub top : IsNear e.ymax
-  pub right : unsigned_abs e.xmax < edge_limit
-  pub bottom : unsigned_abs e.ymin < edge_limit
 
 -- what the grid of a mosaic keeps
 pub record IsGrid (g : GridValue) : Type 0 where
@@ -168,12 +143,3 @@ pub record IsGrid (g : GridValue) : Type 0 where
   pub line : IsStep g.dy
   pub size : IsRaster g.size
   pub geo : IsDecimal g.geo
-
--- the sides of pixels
-abbrev pub IsSide : Measure → Type 0
-IsSide ColumnStep = Unit {0}
-IsSide LineStep = Unit {0}
-IsSide Left = ⊥
-IsSide Right = ⊥
-IsSide Top = ⊥
-IsSide Bottom = ⊥

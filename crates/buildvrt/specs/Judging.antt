@@ -41,8 +41,8 @@ abbrev pub has_bands : DatasetHead → List ℕ → Bool
 has_bands h numbers = list_all (λ n. nat_le n (band_count h)) numbers
 
 -- a band of a dataset by its number from 1
-abbrev pub band_of : DatasetHead → ℕ → Option BandHead
-band_of h n = band_at h (n - 1)
+abbrev pub numbered_band : DatasetHead → ℕ → Option BandHead
+numbered_band h n = band_at h (n - 1)
 
 -- The bands that are taken of the reference: the chosen ones, or all.
 abbrev pub numbers_or_all : List ℕ → ℕ → List ℕ
@@ -64,7 +64,7 @@ band_type (Some band) = type_number band.kind
 
 -- whether two datasets have the same type in the band of a number
 abbrev pub same_type : DatasetHead → DatasetHead → ℕ → Bool
-same_type a b n = band_type (band_of a n) == band_type (band_of b n)
+same_type a b n = band_type (numbered_band a n) == band_type (numbered_band b n)
 
 -- whether two datasets have the same types in all these bands
 abbrev pub same_types : DatasetHead → DatasetHead → List ℕ → Bool

@@ -1,11 +1,11 @@
 -- Where the inputs lie in the mosaic.
-use Rattle.std.specs.Prelude.{ℕ, ℤ, pos, ◌+ℤ◌, ◌-ℤ◌, ◌*ℤ◌, ◌<◌, ◌*◌, ◌^◌, ◌<ℤ◌, Bool, ◌&&◌, int_lt, nat_le, IfSome}
-use Rattle.std.specs.Prelude.{unsigned_abs, List, [], ◌∷◌, ◌++◌, Option, None, Some, Result, Ok, Err, if◌then◌else◌}
+use Rattle.std.specs.Prelude.{ℕ, ℤ, pos, ◌+ℤ◌, ◌-ℤ◌, ◌*ℤ◌, Bool, ◌&&◌, int_lt, nat_le, IfSome, unsigned_abs, List, []}
+use Rattle.std.specs.Prelude.{◌∷◌, Option, None, Some, Result, Ok, Err, if◌then◌else◌}
 use Rattle.lists_and_answers.specs.Answers.{◌>>=◌}
 use Rattle.geotransform.specs.Places.{rounded_up}
 use Rattle.geotransform.specs.declared.types.Size.{Size}
 use Rattle.vrt_profile.specs.Values.{Rectangle, IsRectangle}
-use Rattle.vrt_profile.specs.Built.{pixels_at}
+use Rattle.vrt_profile.specs.Built.{pixel_rectangle}
 use Rattle.catalog.specs.Dataset.{DatasetHead, IsDatasetHead}
 use Rattle.buildvrt.specs.Tiles.{TileValue}
 use Rattle.buildvrt.specs.Grids.{GridValue, some_pixels, measure}
@@ -42,11 +42,11 @@ is_within r = is_offset r.x && (is_offset r.y && (is_offset r.w && is_offset r.h
 
 -- in millionths of a pixel
 abbrev pub in_millionths : PixelRect → Rectangle
-in_millionths r = pixels_at r.x r.y r.w r.h
+in_millionths r = pixel_rectangle r.x r.y r.w r.h
 
 -- The rectangle of an input, none where it meets no pixel of the mosaic.
-abbrev pub shown_at : Size → PixelRect → Result (Option Rectangle) BuildFault
-shown_at size r = if meets size r then (if is_within r then Ok (Some (in_millionths r)) else Err Limit) else Ok None
+abbrev pub shown_in : Size → PixelRect → Result (Option Rectangle) BuildFault
+shown_in size r = if meets size r then (if is_within r then Ok (Some (in_millionths r)) else Err Limit) else Ok None
 
 -- an input, and its rectangle in the mosaic
 pub record PatchValue : Type 0 where
@@ -56,7 +56,7 @@ pub record PatchValue : Type 0 where
 -- the patch of an input in a grid
 unfoldable pub patch_of : GridValue → TileValue → Result PatchValue BuildFault
 patch_of g t = do
-  shown ← shown_at g.size (rectangle_of g t)
+  shown ← shown_in g.size (rectangle_of g t)
   Ok (record { head = t.head; shown = shown })
 
 -- a patch before others
@@ -68,25 +68,7 @@ abbrev pub patches_of : GridValue → List TileValue → Result (List PatchValue
 patches_of g [] = Ok []
 patches_of g (t ∷ ts) = patch_of g t >>= λ p. (patches_of g ts >>= with_patch p)
 
--- places and sides of a rectangle of pixels stay below it in magnitude
-abbrev pub pixel_limit : ℕ
-pixel_limit = 3 * 10 ^ 37
-
--- what is known of a rectangle of pixels
-pub record IsPixelRect (r : PixelRect) : Type 0 where
-  pub left : unsigned_abs r.x < pixel_limit
-  pub top : unsigned_abs r.y < pixel_limit
-  pub some_width : pos 0 <ℤ r.w
-  pub some_height : pos 0 <ℤ r.h
-  pub width : unsigned_abs r.w < pixel_limit
-  pub height : unsigned_abs r.h < pixel_limit
-
 -- what a patch keeps
 pub record IsPatch (p : PatchValue) : Type 0 where
   pub head : IsDatasetHead p.head
   pub shown : IfSome p.shown IsRectangle
-
--- these rectangles before those that are still made
-abbrev pub then_patches : List PatchValue → Result (List PatchValue) BuildFault → Result (List PatchValue) BuildFault
-then_patches before (Ok patches) = Ok (before ++ patches)
-then_patches before (Err fault) = Err fault

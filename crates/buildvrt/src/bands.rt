@@ -6,16 +6,17 @@ ghost use Rattle.geotransform.specs.Limits.{whole_limit};
 ghost use Rattle.lists_and_answers.specs.Answers.{Gives};
 ghost use Rattle.buildvrt.specs.Options.{IsBandNumber};
 ghost use Rattle.catalog.specs.Nodata.{IsNodataWord};
-ghost use Rattle.buildvrt.specs.Judging.{has_bands, band_of, taken_bands};
+ghost use Rattle.buildvrt.specs.Judging.{has_bands, numbered_band, taken_bands};
 ghost use Rattle.buildvrt.specs.Rectangles.{IsPatch};
 ghost use Rattle.buildvrt.specs.Mosaic.{IsMemory};
-ghost use Rattle.buildvrt.specs.Bands.{source_nodata, wanted_nodata, band_nodata, source_of};
-ghost use Rattle.buildvrt.specs.Bands.{source_in, band_from, band_with, common_bands, own_band, separate_bands};
-ghost use Rattle.buildvrt.specs.Bands.{all_bands, bands_within, shown_count, is_few, FitsDocument};
+ghost use Rattle.buildvrt.specs.Bands.{source_nodata, wanted_nodata, band_nodata, source_of, source_in, band_from};
+ghost use Rattle.buildvrt.specs.Bands.{band_with, common_bands, own_band, separate_bands, all_bands, bands_within};
+ghost use Rattle.buildvrt.specs.Bands.{shown_count, is_few};
+ghost use Rattle.buildvrt.specs.Limits.{FitsDocument};
 ghost use Rattle.catalog.specs.Dataset.{most_datasets};
 
 use crate::faults::BuildFault;
-use crate::judging::{band_of, head_rules, taken_bands};
+use crate::judging::{head_rules, numbered_band, taken_bands};
 use crate::options::BuildOptions;
 use crate::patch::Patch;
 use catalog::{BandHead, Head, NodataWord};
@@ -60,10 +61,10 @@ fn wanted_nodata(mosaic: NodataWord, source: NodataWord, own: Option<Sample>) ->
 #[tactic(auto, using(crate::proofs::Counts::type_bound))]
 fn band_nodata(head: &Head, number: u32) -> Option<Sample>
     requires number { 0 < number }
-    ensures nodata { result ≡ band_nodata (band_of head.now number) }
+    ensures nodata { result ≡ band_nodata (numbered_band head.now number) }
     ensures rules { IfSome result (λ n. unsigned_abs n < whole_limit) }
 {
-    match band_of(head, number) {
+    match numbered_band(head, number) {
         None => None,
         Some(band) => band.nodata,
     }
@@ -154,7 +155,7 @@ fn add_band(
     ensures added { OnOk result (bands.new ≡ bands.old ++ filter_map (band_with options.now head.now patches.now)
         (number ∷ [])) }
 {
-    match band_of(head, number) {
+    match numbered_band(head, number) {
         None => Ok(()),
         Some(band) => bands.push(band_from(alloc, options, band, number, patches)?),
     }
@@ -204,7 +205,7 @@ fn add_own_band(
     ensures added { OnOk result (bands.new ≡ bands.old ++ filter_map (own_band options.now) (patch.now ∷ [])) }
 {
     let head = patch.head;
-    match band_of(head, 1) {
+    match numbered_band(head, 1) {
         None => Ok(()),
         Some(band) => bands.push(own_band(alloc, options, band, patch)?),
     }

@@ -2,7 +2,8 @@
 ghost use Rattle.std.specs.Prelude.{◌≡◌, ◌<◌, ◌≤◌, true, length, IfOk, Ok};
 ghost use Rattle.lists_and_answers.specs.Answers.{Gives};
 ghost use Rattle.buildvrt.specs.Judging.{has_bands, judged_of};
-ghost use Rattle.buildvrt.specs.Mosaic.{IsMemory, document_on, document_by, mosaic_by, mosaic_of, HasReference};
+ghost use Rattle.buildvrt.specs.Mosaic.{IsMemory, document_on, document_by, mosaic_by, mosaic_of};
+ghost use Rattle.buildvrt.specs.Limits.{HasReference};
 ghost use Rattle.catalog.specs.Dataset.{most_datasets};
 
 use crate::bands::bands_of;

@@ -5,11 +5,10 @@ ghost use Rattle.vrt_profile.specs.Values.{IsDecimal};
 ghost use Rattle.geotransform.specs.Print.{unit};
 ghost use Rattle.geotransform.specs.Geo.{IsNear};
 ghost use Rattle.geotransform.specs.Places.{rounded_up};
-ghost use Rattle.buildvrt.specs.Grids.{measure, IsMeasure, IsSide, less_of, greater_of, least_from, greatest_from};
-ghost use Rattle.buildvrt.specs.Grids.{least, greatest, mean, sum_from, IsStep, IsSteps, IsReach, IsGrid, steps_of};
-ghost use Rattle.buildvrt.specs.Grids.{union_of, extent_of, some_pixels, side_of, rounded_transform};
-ghost use Rattle.buildvrt.specs.Grids.{grid_by, grid_of, edge_limit};
-ghost use Rattle.buildvrt.specs.Rectangles.{pixel_limit};
+ghost use Rattle.buildvrt.specs.Grids.{measure, less_of, greater_of, least_from, greatest_from, least, greatest, mean};
+ghost use Rattle.buildvrt.specs.Grids.{sum_from, IsStep, IsGrid, steps_of, union_of, extent_of, some_pixels, side_of};
+ghost use Rattle.buildvrt.specs.Grids.{rounded_transform, grid_by, grid_of};
+ghost use Rattle.buildvrt.specs.Limits.{IsMeasure, IsSide, IsSteps, IsReach, edge_limit, pixel_limit};
 ghost use Rattle.geotransform.specs.Limits.{most_side, unit_limit};
 ghost use Rattle.catalog.specs.Dataset.{most_datasets};
 

@@ -8,7 +8,7 @@ ghost use Rattle.std.specs.List.{All, range_with_len};
 ghost use Rattle.lists_and_answers.specs.Answers.{Gives};
 ghost use Rattle.buildvrt.specs.Mosaic.{IsMemory};
 ghost use Rattle.buildvrt.specs.Options.{IsBandNumber};
-ghost use Rattle.buildvrt.specs.Judging.{north_up, north_up_of, same_text, has_bands, band_of, taken_bands};
+ghost use Rattle.buildvrt.specs.Judging.{north_up, north_up_of, same_text, has_bands, numbered_band, taken_bands};
 ghost use Rattle.buildvrt.specs.Judging.{type_number, band_type, same_type, same_types, same_count};
 ghost use Rattle.buildvrt.specs.Judging.{judged_alone, judged_beside, joined, one_judged, none_judged, judged_behind};
 ghost use Rattle.buildvrt.specs.Judging.{judged_of, IsOneOf, first_refused, strictly};
@@ -81,9 +81,9 @@ fn has_bands(head: &Head, numbers: &[u32]) -> bool
 }
 
 /// A band by its number from 1.
-pub fn band_of(head: &Head, number: u32) -> Option<BandHead>
+pub fn numbered_band(head: &Head, number: u32) -> Option<BandHead>
     requires { 0 < number }
-    ensures band { result ≡ band_of head.now number }
+    ensures band { result ≡ numbered_band head.now number }
     ensures rules { IfSome result (λ b. IfSome b.nodata (λ n. is_in b.kind n ≡ true)) }
 {
     head_rules(head);
@@ -114,7 +114,7 @@ fn same_type(a: &Head, b: &Head, number: u32) -> bool
     requires { 0 < number }
     ensures { result ≡ same_type a.now b.now number }
 {
-    band_type(band_of(a, number)) == band_type(band_of(b, number))
+    band_type(numbered_band(a, number)) == band_type(numbered_band(b, number))
 }
 
 fn same_types(a: &Head, b: &Head, numbers: &[u32]) -> bool

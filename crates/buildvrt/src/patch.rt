@@ -5,8 +5,9 @@ ghost use Rattle.std.specs.List.{All};
 ghost use Rattle.lists_and_answers.specs.Answers.{Gives};
 ghost use Rattle.buildvrt.specs.Mosaic.{IsMemory};
 ghost use Rattle.geotransform.specs.Geo.{IsNear};
-ghost use Rattle.buildvrt.specs.Rectangles.{rectangle_of, meets_side, meets, is_offset};
-ghost use Rattle.buildvrt.specs.Rectangles.{shown_at, patch_of, patches_of, pixel_limit, IsPixelRect, IsPatch};
+ghost use Rattle.buildvrt.specs.Rectangles.{rectangle_of, meets_side, meets, is_offset, shown_in, patch_of, patches_of};
+ghost use Rattle.buildvrt.specs.Rectangles.{IsPatch};
+ghost use Rattle.buildvrt.specs.Limits.{pixel_limit, IsPixelRect};
 ghost use Rattle.geotransform.specs.Limits.{farthest, most_side};
 
 use crate::faults::BuildFault;
@@ -97,9 +98,9 @@ fn is_offset(v: i128) -> bool
 }
 
 #[tactic(auto, using(crate::proofs::Patches::shown_is))]
-fn shown_at(size: Size, rect: PixelRect) -> Result<Option<MicroRect>, BuildFault>
+fn shown_in(size: Size, rect: PixelRect) -> Result<Option<MicroRect>, BuildFault>
     requires rect { IsPixelRect rect }
-    ensures value { result ≡ shown_at size rect }
+    ensures value { result ≡ shown_in size rect }
 {
     if !meets(size, rect) {
         return Ok(None);
@@ -119,7 +120,7 @@ fn patch_of<'a>(grid: &Grid, tile: &Tile<'a>) -> Result<Patch<'a>, BuildFault>
     ensures rules { IfOk result IsPatch }
 {
     let head = tile.head;
-    match shown_at(grid.size, rectangle_of(grid, tile)) {
+    match shown_in(grid.size, rectangle_of(grid, tile)) {
         Ok(shown) => Ok(Patch { head, shown }),
         Err(fault) => Err(fault),
     }

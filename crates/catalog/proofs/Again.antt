@@ -16,10 +16,11 @@ use Rattle.catalog.specs.declared.faults.LimitKind.TheVariants as limits
 use Rattle.catalog.specs.declared.faults.WalkFault.{WalkFault}
 use Rattle.catalog.specs.declared.faults.WalkFault.TheVariants.{Cycle, TooDeep, Limit}
 use Rattle.catalog.specs.declared.links.Link.{Link}
-use Rattle.catalog.specs.Drivers.{Dataset, content_head, content_kind, driver_kind}
+use Rattle.catalog.specs.Drivers.{Dataset, content_head}
+use Rattle.catalog.specs.OwnFiles.{content_kind, driver_kind}
 use Rattle.catalog.specs.Mosaics.{sources_of, source_name}
 use Rattle.catalog.specs.Heads.{kind_in, resolved}
-use Rattle.catalog.specs.Walk.{number_of, dataset_named, sources_in, unless_on, room_for, again_sources, again_below, again_step, again, IsDataset}
+use Rattle.catalog.specs.Walk.{dataset_number_in, dataset_named, sources_in, unless_on, room_for, again_sources, again_below, again_step, again, IsDataset}
 use Rattle.catalog.specs.Linked.{State, IsLinked, IsLinkOf, IsMet, IsHigh, IsOff, IsDeep, IsMember, Each, height_in, height_at, most, first_above}
 use Rattle.catalog.proofs.Found.{some_is, of_item, named_at, name_at, flat_rows}
 use Rattle.catalog.proofs.Rows.{rows_known}
@@ -129,7 +130,7 @@ below_off st linked path id d l met off height less id' d' l' at whole low = by_
     by_test : (b : Bool) → bytes_eq d.head.name d'.head.name ≡ b → (b || is_among path d'.head.name) ≡ false
     by_test true e =
         let named : d.head.name ≡ d'.head.name = (bytes_eq-Decides d.head.name d'.head.name).0 e in
-        let same : id ≡ id' = some_is (sym (linked.apart id d met.at) ∙ ap (number_of st.datasets) named ∙ linked.apart id' d' at) in
+        let same : id ≡ id' = some_is (sym (linked.apart id d met.at) ∙ ap (dataset_number_in st.datasets) named ∙ linked.apart id' d' at) in
         let links : l ≡ l' = some_is (some_is (sym met.whole ∙ ap (slice_get st.links) same ∙ whole)) in
         let heights : l.height ≡ l'.height = ap (λ (x : Link). x.height) links in
         absurd (omega arith)

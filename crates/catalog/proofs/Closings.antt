@@ -12,8 +12,8 @@ use Rattle.catalog.specs.declared.links.Link.{Link}
 use Rattle.catalog.specs.Mosaics.{sources_of}
 use Rattle.catalog.specs.Outcomes.{IsOutside}
 use Rattle.catalog.specs.Heads.{kind_in}
-use Rattle.catalog.specs.Walk.{Met, number_of, sources_in, visit, visit_sources}
-use Rattle.catalog.specs.Linked.{State, met_of, IsLinked, IsLink, IsLinkOf, IsMosaicAt, IsPath, IsMember, Each, AreRows, Grows, Goes, most, pushed, met_whole}
+use Rattle.catalog.specs.Walk.{Met, dataset_number_in, sources_in, visit, visit_sources}
+use Rattle.catalog.specs.Linked.{State, met_of, IsLinked, IsLink, IsLinkOf, IsMosaicAt, IsPath, IsMember, Each, AreMemberRows, Grows, Goes, most, pushed, met_whole}
 use Rattle.catalog.specs.Walking.{Seen, Visits, IsOpened, Passes, ReachesRows}
 use Rattle.catalog.proofs.States.{grows_trans, grows_pushed, grows_closed, goes_mosaic, stays_open, path_pushed, pushed_at, set_same}
 use Rattle.catalog.proofs.Walking.{failed, fault_is, ok≢err}
@@ -29,7 +29,7 @@ members_known st base (s ∷ ss) (id ∷ ids) all =
     let t = all.0 in
     All-cons (λ id. id < length st.links) id ids (slice_get_within st.links id (Some t.link) t.whole) (members_known st base ss ids all.1)
 
-rows_in : (st : State) (base : List ℕ) (bands : List BandValue) (rows : List (List ℕ)) → AreRows st base bands rows → All (λ row. All (λ id. id < length st.links) row) rows
+rows_in : (st : State) (base : List ℕ) (bands : List BandValue) (rows : List (List ℕ)) → AreMemberRows st base bands rows → All (λ row. All (λ id. id < length st.links) row) rows
 rows_in st base [] [] all = All-nil (λ row. All (λ id. id < length st.links) row)
 rows_in st base [] (r ∷ rows) all = absurd all
 rows_in st base (b ∷ bands) [] all = absurd all
@@ -44,8 +44,8 @@ module _ (verify : Bool) (room : ℕ) (name : List ℕ) (a b c : Seen) (old mid 
     content = o.content;
   }
 
-  unmet : number_of old.datasets o.dataset.head.name ≡ None
-  unmet = ap (number_of old.datasets) o.named ∙ o.fresh
+  unmet : dataset_number_in old.datasets o.dataset.head.name ≡ None
+  unmet = ap (dataset_number_in old.datasets) o.named ∙ o.fresh
 
   grows_first : Grows old mid
   grows_first = subst (λ (s : State). Grows old s) (sym o.is_pushed) (grows_pushed old o.dataset None)
@@ -79,7 +79,7 @@ module _ (verify : Bool) (room : ℕ) (name : List ℕ) (a b c : Seen) (old mid 
       reads = tt;
       number = tt;
       low = tt;
-      again = λ met. absurd (not_met (number_of old.datasets name) o.fresh met);
+      again = λ met. absurd (not_met (dataset_number_in old.datasets name) o.fresh met);
       unknown = record { always = λ fault e. absurd (ok≢err (sym o.kind ∙ e)); only = only; file = λ k n e other r. other (let both : Ok k ≡ Ok kinds.Vrt = sym e ∙ o.kind in cc) };
     }
       where
@@ -139,9 +139,9 @@ module _ (verify : Bool) (room : ℕ) (name : List ℕ) (a b c : Seen) (old mid 
             o.told m told path on
             ∙ subst (λ (n : List ℕ). visit_sources (λ e k. visit m verify (room - 1) (name ∷ path) e k) n (met_of mid) (sources_of o.document) ≡ Ok (met_of new)) o.named (p.told m (o.names ∙ told) (name ∷ path) (path_first path on));
         reads = read_then verify a.reads b.reads c.reads old.datasets mid.datasets new.datasets o.reads p.reads;
-        number = ap (number_of new.datasets) (sym o.named) ∙ goes.linked.apart id o.dataset at;
+        number = ap (dataset_number_in new.datasets) (sym o.named) ∙ goes.linked.apart id o.dataset at;
         low = record { dataset = o.dataset; link = last; met = record { at = at; whole = set_same new.links id (Some last) open_known }; low = (let x = p.reached.low in let y = o.some in omega arith) };
-        again = λ met. absurd (not_met (number_of old.datasets name) o.fresh met);
+        again = λ met. absurd (not_met (dataset_number_in old.datasets name) o.fresh met);
         unknown = record { always = λ fault e. absurd (ok≢err (sym o.kind ∙ e)); only = λ n r. absurd (ok≢err r); file = λ k n e other r. ok≢err r };
       }
 

@@ -9,7 +9,8 @@ use Rattle.catalog.specs.declared.driver.DriverHead.TheVariants.{Raw, Dted, Hgt,
 use Rattle.catalog.specs.declared.driver.Content.{Content}
 use Rattle.catalog.specs.declared.driver.Content.TheVariants.{File, Mosaic}
 use Rattle.catalog.specs.Dataset.{DatasetHead, IsDatasetHead}
-use Rattle.catalog.specs.Drivers.{driver_kind, head_told, content_kind, content_head, Fits}
+use Rattle.catalog.specs.Drivers.{head_told, content_head, Fits}
+use Rattle.catalog.specs.OwnFiles.{driver_kind, content_kind}
 use Rattle.catalog.specs.Heads.{kind_in}
 use Rattle.catalog.specs.Walk.{IsDataset}
 

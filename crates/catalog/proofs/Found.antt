@@ -7,8 +7,8 @@ use Rattle.lists_and_answers.specs.Lists.{flattened}
 use Rattle.vrt_profile.specs.Values.{SourceValue, BandValue}
 use Rattle.catalog.specs.declared.links.Link.{Link}
 use Rattle.catalog.specs.Drivers.{Dataset}
-use Rattle.catalog.specs.Walk.{number_from, number_of, dataset_named, IsApart}
-use Rattle.catalog.specs.Linked.{State, Grows, IsMember, Each, AreRows, height_in, height_at, most}
+use Rattle.catalog.specs.Walk.{number_from, dataset_number_in, dataset_named, IsApart}
+use Rattle.catalog.specs.Linked.{State, Grows, IsMember, Each, AreMemberRows, height_in, height_at, most}
 
 none≢some : {T : Type 0} {x : T} → None ≡ Some x → ⊥
 none≢some e = true≢false (sym (ap is_some e))
@@ -45,26 +45,26 @@ found_from : (at : ℕ) (cat : List Dataset) (name : List ℕ) (id : ℕ) → nu
 found_from at [] name id is = absurd (none≢some is)
 found_from at (c ∷ cs) name id is = from_step at c cs name id (bytes_eq c.head.name name) refl is (λ h. found_from (suc at) cs name id h)
 
-pub found : (cat : List Dataset) (name : List ℕ) (id : ℕ) → number_of cat name ≡ Some id → IsNamedAt cat name id
+pub found : (cat : List Dataset) (name : List ℕ) (id : ℕ) → dataset_number_in cat name ≡ Some id → IsNamedAt cat name id
 found cat name id is =
     let f = found_from 0 cat name id is in
     let same : f.place ≡ id = (let e : id ≡ 0 + f.place = f.counted in omega arith) in
     subst (λ k. IsNamedAt cat name k) same f.there
 
 -- the dataset of a name whose number is known
-pub named_at : (cat : List Dataset) (name : List ℕ) (id : ℕ) (d : Dataset) → number_of cat name ≡ Some id → slice_get cat id ≡ Some d → dataset_named cat name ≡ Some d
+pub named_at : (cat : List Dataset) (name : List ℕ) (id : ℕ) (d : Dataset) → dataset_number_in cat name ≡ Some id → slice_get cat id ≡ Some d → dataset_named cat name ≡ Some d
 named_at cat name id d is at = rw is at
 
-pub name_at : (cat : List Dataset) (name : List ℕ) (id : ℕ) (d : Dataset) → number_of cat name ≡ Some id → slice_get cat id ≡ Some d → d.head.name ≡ name
+pub name_at : (cat : List Dataset) (name : List ℕ) (id : ℕ) (d : Dataset) → dataset_number_in cat name ≡ Some id → slice_get cat id ≡ Some d → d.head.name ≡ name
 name_at cat name id d is at =
     let f = found cat name id is in
     ap (λ (x : Dataset). x.head.name) (some_is (sym at ∙ f.at)) ∙ f.named
 
 -- a number stays
-pub number_stays : (old new : State) (name : List ℕ) (id : ℕ) → Grows old new → IsApart new.datasets → number_of old.datasets name ≡ Some id → number_of new.datasets name ≡ Some id
+pub number_stays : (old new : State) (name : List ℕ) (id : ℕ) → Grows old new → IsApart new.datasets → dataset_number_in old.datasets name ≡ Some id → dataset_number_in new.datasets name ≡ Some id
 number_stays old new name id grows apart is =
     let f = found old.datasets name id is in
-    subst (λ n. number_of new.datasets n ≡ Some id) f.named (apart id f.dataset (grows.datasets id f.dataset f.at))
+    subst (λ n. dataset_number_in new.datasets n ≡ Some id) f.named (apart id f.dataset (grows.datasets id f.dataset f.at))
 
 pub member_stays : (old new : State) (base : List ℕ) (s : SourceValue) (id : ℕ) → Grows old new → IsApart new.datasets → IsMember old base s id → IsMember new base s id
 member_stays old new base s id grows apart t = record {
@@ -100,7 +100,7 @@ each_map P Q (a ∷ xs) [] h all = absurd all
 each_map P Q (a ∷ xs) (b ∷ bs) h all = (h a b all.0, each_map P Q xs bs h all.1)
 
 -- the rows of all bands, one behind the other
-pub flat_rows : (st : State) (base : List ℕ) (bands : List BandValue) (rows : List (List ℕ)) → AreRows st base bands rows → Each (IsMember st base) (flat_map (λ (b : BandValue). b.sources) bands) (flattened rows)
+pub flat_rows : (st : State) (base : List ℕ) (bands : List BandValue) (rows : List (List ℕ)) → AreMemberRows st base bands rows → Each (IsMember st base) (flat_map (λ (b : BandValue). b.sources) bands) (flattened rows)
 flat_rows st base [] [] all = tt
 flat_rows st base [] (r ∷ rows) all = absurd all
 flat_rows st base (b ∷ bands) [] all = absurd all
@@ -120,7 +120,7 @@ most_stays old new base (s ∷ ss) (id ∷ ids) grows all =
     let here : height_at new.links id ≡ height_at old.links id = ap height_in (grows.links id t.link t.whole) ∙ sym (ap height_in t.whole) in
     ap (λ h. max h (most new.links ids)) here ∙ ap (λ h. max (height_at old.links id) h) (most_stays old new base ss ids grows all.1)
 
-pub rows_stay : (old new : State) (base : List ℕ) (bands : List BandValue) (rows : List (List ℕ)) → Grows old new → IsApart new.datasets → AreRows old base bands rows → AreRows new base bands rows
+pub rows_stay : (old new : State) (base : List ℕ) (bands : List BandValue) (rows : List (List ℕ)) → Grows old new → IsApart new.datasets → AreMemberRows old base bands rows → AreMemberRows new base bands rows
 rows_stay old new base bands rows grows apart all =
     each_map (λ (b : BandValue) (row : List ℕ). Each (IsMember old base) b.sources row) (λ (b : BandValue) (row : List ℕ). Each (IsMember new base) b.sources row) bands rows
     (λ b row. each_map (IsMember old base) (IsMember new base) b.sources row (λ s id. member_stays old new base s id grows apart)) all

@@ -6,13 +6,14 @@ use Rattle.outside.specs.Outside.{Files}
 use Rattle.esri_hdr.specs.declared.header_parts.HdrFault.{HdrFault}
 use Rattle.esri_hdr.specs.declared.header_parts.HdrFault.TheVariants.{Limit}
 use Rattle.esri_hdr.specs.Head.{Head, esri_head, head_of}
-use Rattle.esri_hdr.specs.Lines.{last_of}
+use Rattle.esri_hdr.specs.Lines.{last_in_text}
 use Rattle.catalog.specs.declared.faults.WalkFault.{WalkFault}
 use Rattle.catalog.specs.declared.faults.WalkFault.TheVariants.{Absent, NotRecognized, Malformed, Short, Cycle, TooDeep, Limit as Passed, SourceBand, FolderFault, Memory}
 use Rattle.catalog.specs.declared.faults.Bad.{Bad}
 use Rattle.catalog.specs.declared.faults.Bad.TheVariants.{Hdr}
 use Rattle.catalog.specs.Outcomes.{IsOutside, IsMemory}
-use Rattle.catalog.specs.Heads.{file_in, header_in, named, IsOwnFault, IsOfFile, IsOfHead}
+use Rattle.catalog.specs.Heads.{file_in, header_in, named, IsOwnFault, IsOfHead}
+use Rattle.catalog.specs.OwnFiles.{IsOfFile}
 
 -- an answer that no definition gives
 pub outside_fails : {Y : Type 0} (f : WalkFault) (d : Result Y WalkFault) → IsOutside f → IsOutside f ⊎ (d ≡ Err f)
@@ -28,7 +29,7 @@ memory_is_outside f is = rw is tt
 -- a header past its limit
 too_long : (text : List ℕ) → 1048576 < length text → esri_head text ≡ Err Limit
 unfolding esri_head
-too_long text long = let test : nat_lt 1048576 (length text) ≡ true = grind (arith, nat_tests) in ap (λ (b : Bool). cond b (Err Limit) (head_of (last_of text))) test
+too_long text long = let test : nat_lt 1048576 (length text) ≡ true = grind (arith, nat_tests) in ap (λ (b : Bool). cond b (Err Limit) (head_of (last_in_text text))) test
 
 pub long_header : (m : Files) (name text : List ℕ) → file_in m name ≡ Ok text → 1048576 < length text → header_in m name ≡ Err (Malformed name (Hdr Limit))
 unfolding header_in

@@ -16,16 +16,16 @@ use Rattle.std.proofs.lemmas.Map.Text.{text_cmp, is_eq-slice_cmp, btree_map_upda
 use Rattle.std.proofs.lemmas.Slice.Eq.{bytes_eq-Decides}
 use Rattle.catalog.specs.declared.links.Link.{Link}
 use Rattle.catalog.specs.Drivers.{Dataset}
-use Rattle.catalog.specs.Walk.{number_from, number_of}
+use Rattle.catalog.specs.Walk.{number_from, dataset_number_in}
 use Rattle.catalog.specs.Linked.{State, Grows}
 use Rattle.catalog.proofs.States.{front_item}
 
 -- each dataset's number is kept under its name
 abbrev pub HasNumbers : {Y : Type 0} → List Dataset → BTreeMap (String Y) ℕ → Type 0
-HasNumbers ds m = (name : List ℕ) → get_by_text m name ≡ number_of ds name
+HasNumbers ds m = (name : List ℕ) → get_by_text m name ≡ dataset_number_in ds name
 
 pub numbers_none : {Y : Type 0} (ds : List Dataset) (m : BTreeMap (String Y) ℕ) → ds ≡ [] → IsEmpty m → HasNumbers ds m
-numbers_none ds m none empty name = ap (lookup (is_at (text_cmp name))) empty ∙ sym (ap (λ cat. number_of cat name) none)
+numbers_none ds m none empty name = ap (lookup (is_at (text_cmp name))) empty ∙ sym (ap (λ cat. dataset_number_in cat name) none)
 
 -- a number is kept under a name, unless the name has one
 
@@ -63,9 +63,9 @@ numbers_pushed ds more d m new n has is kept counted name =
     let last : n ≡ 0 + length ds = omega arith in
     kept name
     ∙ ap (λ o. option_or o (cond (bytes_eq d.head.name name) (Some n) None)) (has name)
-    ∙ ap (λ k. option_or (number_of ds name) (cond (bytes_eq d.head.name name) (Some k) None)) last
+    ∙ ap (λ k. option_or (dataset_number_in ds name) (cond (bytes_eq d.head.name name) (Some k) None)) last
     ∙ sym (number_behind 0 ds d name)
-    ∙ sym (ap (λ cat. number_of cat name) is)
+    ∙ sym (ap (λ cat. dataset_number_in cat name) is)
 
 -- the numbers below a count
 
@@ -119,7 +119,7 @@ numbers_cut ds front m new count has is sorted left name =
     ∙ left_text (λ n. nat_lt n count) name m.entries (get_by_text m name) sorted refl
     ∙ ap (option_filter (λ n. nat_lt n count)) (has name)
     ∙ sym (number_front count 0 count ds name (omega arith))
-    ∙ sym (ap (λ cat. number_of cat name) is)
+    ∙ sym (ap (λ cat. dataset_number_in cat name) is)
 
 -- what was met stays
 

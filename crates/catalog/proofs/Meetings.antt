@@ -18,9 +18,10 @@ use Rattle.catalog.specs.Dataset.{DatasetHead}
 use Rattle.catalog.specs.Drivers.{Dataset, content_head}
 use Rattle.catalog.specs.Mosaics.{sources_of}
 use Rattle.catalog.specs.Outcomes.{IsOutside, IsMemory}
-use Rattle.catalog.specs.Heads.{kind_in, kind_of, dataset_by, IsOfFile}
+use Rattle.catalog.specs.Heads.{kind_in, kind_of, dataset_by}
+use Rattle.catalog.specs.OwnFiles.{IsOfFile}
 use Rattle.catalog.proofs.Headers.{never_unknown, owns_fault}
-use Rattle.catalog.specs.Walk.{number_of, room_for, sources_in, visit, visit_sources, IsDataset, IsWalked}
+use Rattle.catalog.specs.Walk.{dataset_number_in, room_for, sources_in, visit, visit_sources, IsDataset, IsWalked}
 use Rattle.catalog.specs.Readings.{calls_to_open}
 use Rattle.catalog.specs.Linked.{State, met_of, IsLinked, IsLink, IsLinkOf, IsPath, IsLow, Grows, pushed}
 use Rattle.catalog.specs.Walking.{Seen, IsOrdinaryFault, WalksOn, ReadsOnce, Visits, IsOpened}
@@ -124,7 +125,7 @@ module _ (verify : Bool) (room : ℕ) (name : List ℕ) where
           subst (λ k. kind_in k ≡ Err (NotRecognized k)) same (is ∙ ap Err named)
 
   -- a name that was met
-  pub visits_known : (a : Seen) (st : State) (kind : Kind) (id : ℕ) → IsLinked st → kind_in name ≡ Ok kind → number_of st.datasets name ≡ Some id → IsLow st id room → ((m : Files) (path : List (List ℕ)) → IsPath st path → visit m verify room path (met_of st) name ≡ Ok (met_of st)) → Visits verify room name a a st st (Ok id)
+  pub visits_known : (a : Seen) (st : State) (kind : Kind) (id : ℕ) → IsLinked st → kind_in name ≡ Ok kind → dataset_number_in st.datasets name ≡ Some id → IsLow st id room → ((m : Files) (path : List (List ℕ)) → IsPath st path → visit m verify room path (met_of st) name ≡ Ok (met_of st)) → Visits verify room name a a st st (Ok id)
   visits_known a st kind id linked is number low told = record {
     walks = walks_none a st id linked;
     told = λ m names path on. told m path on;
@@ -136,10 +137,10 @@ module _ (verify : Bool) (room : ℕ) (name : List ℕ) where
   }
 
   -- a mosaic for which there is no room
-  pub visits_deep : (a : Seen) (st : State) → number_of st.datasets name ≡ None → kind_in name ≡ Ok kinds.Vrt → room ≡ 0 → Visits verify room name a a st st (Err (TooDeep name))
+  pub visits_deep : (a : Seen) (st : State) → dataset_number_in st.datasets name ≡ None → kind_in name ≡ Ok kinds.Vrt → room ≡ 0 → Visits verify room name a a st st (Err (TooDeep name))
   visits_deep a st fresh is none = visits_plain a st kinds.Vrt (TooDeep name) is tt (λ m path on. inr (ap (λ r. visit m verify r path (met_of st) name) none ∙ visit_deep m verify path (met_of st) name is (on name ∙ open_unknown st name fresh)))
 
-  module _ (kind : Kind) (st : State) (is : kind_in name ≡ Ok kind) (shallow : room_for room kind name ≡ Ok tt) (fresh : number_of st.datasets name ≡ None) where
+  module _ (kind : Kind) (st : State) (is : kind_in name ≡ Ok kind) (shallow : room_for room kind name ≡ Ok tt) (fresh : dataset_number_in st.datasets name ≡ None) where
     first : (path : List (List ℕ)) → IsPath st path → IsFirst room path (met_of st) name kind
     first path on = record { kind_is = is; off = on name ∙ open_unknown st name fresh; shallow = shallow; fresh = fresh }
 
@@ -165,7 +166,7 @@ module _ (verify : Bool) (room : ℕ) (name : List ℕ) where
         reads = tt;
         number = tt;
         low = tt;
-        again = λ met. absurd (not_met (number_of st.datasets name) fresh met);
+        again = λ met. absurd (not_met (dataset_number_in st.datasets name) fresh met);
         unknown = record {
           always = λ fault e. absurd (ok≢err (sym is ∙ e));
           only = λ n r. absurd (never_unknown f n of_file (fault_is ℕ f (NotRecognized n) r));
@@ -194,7 +195,7 @@ module _ (verify : Bool) (room : ℕ) (name : List ℕ) where
         reads = tt;
         number = tt;
         low = tt;
-        again = λ met. absurd (not_met (number_of st.datasets name) fresh met);
+        again = λ met. absurd (not_met (dataset_number_in st.datasets name) fresh met);
         unknown = record {
           always = λ fault e. absurd (ok≢err (sym is ∙ e));
           only = λ n r. absurd (plain_known f n plain (fault_is ℕ f (NotRecognized n) r));
@@ -212,8 +213,8 @@ module _ (verify : Bool) (room : ℕ) (name : List ℕ) where
           folder e = cc
 
       module _ (linked : IsLinked st) (d : Dataset) (valid : IsDataset d) (named : d.head.name ≡ name) (told : (m : Files) → a.names ≡ Some m → dataset_by kind m verify name ≡ Ok d) (later : a.faults ≤ b.faults) (read : b.reads ≤ a.reads + calls_to_open verify d) where
-        unmet : number_of st.datasets d.head.name ≡ None
-        unmet = ap (number_of st.datasets) named ∙ fresh
+        unmet : dataset_number_in st.datasets d.head.name ≡ None
+        unmet = ap (dataset_number_in st.datasets) named ∙ fresh
 
         walked_more : (m : Files) → a.names ≡ Some m → IsWalked m st.datasets → IsWalked m (st.datasets ++ d ∷ [])
         walked_more m t walked = one_more_walked m st.datasets d walked (read_so m verify name kind d is (told m t) named)
@@ -249,9 +250,9 @@ module _ (verify : Bool) (room : ℕ) (name : List ℕ) where
               };
               told = λ m t path on. visit_file m verify room path (met_of st) name kind d (first path on) few (told m t) none;
               reads = one_more_read verify a.reads b.reads st.datasets d read;
-              number = ap (number_of (st.datasets ++ d ∷ [])) (sym named) ∙ linked'.apart (length st.datasets) d (pushed_at st d (Some l));
+              number = ap (dataset_number_in (st.datasets ++ d ∷ [])) (sym named) ∙ linked'.apart (length st.datasets) d (pushed_at st d (Some l));
               low = record { dataset = d; link = l; met = record { at = pushed_at st d (Some l); whole = ap (slice_get (st.links ++ Some l ∷ [])) (sym linked.long) ∙ last_item st.links (Some l) }; low = omega (arith, low) };
-              again = λ met. absurd (not_met (number_of st.datasets name) fresh met);
+              again = λ met. absurd (not_met (dataset_number_in st.datasets name) fresh met);
               unknown = record { always = λ fault e. absurd (ok≢err (sym is ∙ e)); only = λ n r. absurd (ok≢err r); file = λ k n e other r. ok≢err r };
             }
 

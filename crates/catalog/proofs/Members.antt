@@ -8,8 +8,8 @@ use Rattle.catalog.specs.declared.driver.Content.{Content}
 use Rattle.catalog.specs.declared.driver.Content.TheVariants.{File, Mosaic}
 use Rattle.catalog.specs.declared.links.Link.{Link}
 use Rattle.catalog.specs.Drivers.{Dataset, document_of}
-use Rattle.catalog.specs.Walk.{number_of}
-use Rattle.catalog.specs.Links.{member_of, source_at, member_at, height_of}
+use Rattle.catalog.specs.Walk.{dataset_number_in}
+use Rattle.catalog.specs.Links.{member_in, source_at, member_at, height_of}
 use Rattle.catalog.specs.Linked.{State, IsMet, IsLinked, IsLinkOf, IsMember, Each, height_in, height_at, most}
 use Rattle.catalog.proofs.Found.{some_is}
 use Rattle.catalog.proofs.Heights.{height_is}
@@ -73,7 +73,7 @@ kept_in st d l band source s (Mosaic doc) e link is = by_band (slice_get doc.ban
           id = id.item;
           row_at = row.at;
           id_at = id.at;
-          member = ap (λ o. o >>= λ s. member_of st.datasets d.head.name s) found ∙ ap (option_and_then (number_of st.datasets)) id.fits.resolves ∙ id.fits.number;
+          member = ap (λ o. o >>= λ s. member_in st.datasets d.head.name s) found ∙ ap (option_and_then (dataset_number_in st.datasets)) id.fits.resolves ∙ id.fits.number;
           fits = id.fits;
           falls = omega arith;
         }

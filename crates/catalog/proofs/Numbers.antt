@@ -3,7 +3,7 @@ use Rattle.std.proofs.Common.{◌≡◌, ◌∙◌, ◌⊎◌, inl, inr, ◌+◌
 use Rattle.std.specs.Prelude.{slice_get}
 use Rattle.std.proofs.lemmas.Slice.Eq.{bytes_eq-Decides}
 use Rattle.catalog.specs.Drivers.{Dataset}
-use Rattle.catalog.specs.Walk.{number_from, number_of, IsApart}
+use Rattle.catalog.specs.Walk.{number_from, dataset_number_in, IsApart}
 
 none≢some : {T : Type 0} {x : T} → None ≡ Some x → ⊥
 none≢some e = true≢false (sym (ap is_some e))
@@ -51,18 +51,18 @@ found_in_front (c ∷ cs) d e (suc id) is = map_⊎ (found_in_front cs d e id is
     map_⊎ (inr h) = inr (h.0, ap suc h.1)
 
 -- the number of a dataset that is added
-pub number_of_added : (cat : List Dataset) (d : Dataset) (name : List ℕ) → number_of cat name ≡ None → d.head.name ≡ name → number_of (cat ++ d ∷ []) name ≡ Some (length cat)
+pub number_of_added : (cat : List Dataset) (d : Dataset) (name : List ℕ) → dataset_number_in cat name ≡ None → d.head.name ≡ name → dataset_number_in (cat ++ d ∷ []) name ≡ Some (length cat)
 number_of_added cat d name none is = number_behind 0 cat d name none is ∙ ap Some (omega arith)
 
 -- each is found under its name, and the one more too
-pub apart_more : (cat : List Dataset) (d : Dataset) → IsApart cat → number_of cat d.head.name ≡ None → IsApart (cat ++ d ∷ [])
+pub apart_more : (cat : List Dataset) (d : Dataset) → IsApart cat → dataset_number_in cat d.head.name ≡ None → IsApart (cat ++ d ∷ [])
 apart_more cat d apart fresh = λ id e at. by_place id e (found_in_front cat d e id at)
   where
-    by_place : (id : ℕ) (e : Dataset) → (slice_get cat id ≡ Some e) ⊎ ((e ≡ d) × (id ≡ length cat)) → number_of (cat ++ d ∷ []) e.head.name ≡ Some id
+    by_place : (id : ℕ) (e : Dataset) → (slice_get cat id ≡ Some e) ⊎ ((e ≡ d) × (id ≡ length cat)) → dataset_number_in (cat ++ d ∷ []) e.head.name ≡ Some id
     by_place id e (inl before) = number_kept 0 cat d e.head.name id (apart id e before)
     by_place id e (inr last) =
         let named : d.head.name ≡ e.head.name = ap (λ (x : Dataset). x.head.name) (sym last.0) in
-        number_of_added cat d e.head.name (subst (λ n. number_of cat n ≡ None) named fresh) named ∙ ap Some (sym last.1)
+        number_of_added cat d e.head.name (subst (λ n. dataset_number_in cat n ≡ None) named fresh) named ∙ ap Some (sym last.1)
 
 other_step : (at : ℕ) (cs : List Dataset) (d : Dataset) (name : List ℕ) (b : Bool) → by_name at cs name b ≡ None → (number_from (suc at) cs name ≡ None → number_from (suc at) (cs ++ d ∷ []) name ≡ None) → by_name at (cs ++ d ∷ []) name b ≡ None
 unfolding by_name

@@ -11,7 +11,7 @@ use Rattle.catalog.specs.declared.links.Link.{Link}
 use Rattle.vrt_profile.specs.Values.{SourceValue}
 use Rattle.catalog.specs.Drivers.{Dataset}
 use Rattle.catalog.specs.Outcomes.{IsOutside}
-use Rattle.catalog.specs.Walk.{Met, visit, walked, met_in, IsDataset, IsNested}
+use Rattle.catalog.specs.Walk.{Met, visit, walked, met_at_first, IsDataset, IsNested}
 use Rattle.catalog.specs.Links.{source_at, member_at, height_of}
 use Rattle.catalog.specs.Linked.{State, met_of, height_at, height_in, IsMet, IsWholeWalk, Grows, cut_to}
 use Rattle.catalog.specs.Walking.{Seen, Visits}
@@ -20,7 +20,7 @@ use Rattle.catalog.proofs.States.{front_stays, item_there}
 use Rattle.catalog.proofs.Members.{IsKept, kept, height_known, falls_below}
 use Rattle.catalog.proofs.Wholes.{whole_path, cut_back}
 
-whole_met : (st : State) → IsWholeWalk st → met_of st ≡ met_in st.datasets
+whole_met : (st : State) → IsWholeWalk st → met_of st ≡ met_at_first st.datasets
 whole_met st whole = λ i. record { datasets = st.datasets; sources = whole.counted i }
 
 module _ (verify : Bool) (name : List ℕ) (a b : Seen) (old new : State) (whole : IsWholeWalk old) where
@@ -34,7 +34,7 @@ module _ (verify : Bool) (name : List ℕ) (a b : Seen) (old new : State) (whole
   unfolding walked
   refused_told f m v told = by_told (v.told m told [] (whole_path old whole))
     where
-      by_told : IsOutside f ⊎ (visit m verify 16 [] (met_of old) name ≡ Err f) → IsOutside f ⊎ ((visit m verify 16 [] (met_in old.datasets) name >>= λ met. Ok met.datasets) ≡ Err f)
+      by_told : IsOutside f ⊎ (visit m verify 16 [] (met_of old) name ≡ Err f) → IsOutside f ⊎ ((visit m verify 16 [] (met_at_first old.datasets) name >>= λ met. Ok met.datasets) ≡ Err f)
       by_told (inl free) = inl free
       by_told (inr is) = inr (ap (λ met. visit m verify 16 [] met name >>= λ met. Ok met.datasets) (sym (whole_met old whole)) ∙ ap (λ (r : Result Met WalkFault). r >>= λ met. Ok met.datasets) is)
 

@@ -13,8 +13,8 @@ use Rattle.catalog.specs.declared.driver.DriverHead.{DriverHead}
 use Rattle.catalog.specs.Drivers.{Dataset, document_of, driver_of}
 use Rattle.catalog.specs.Mosaics.{source_name}
 use Rattle.catalog.specs.Heads.{dataset_in}
-use Rattle.catalog.specs.Walk.{number_from, number_of, dataset_named, sources_in, HasMember, IsNested, IsCatalog, IsWalked}
-use Rattle.catalog.specs.Links.{member_of, source_at, member_at}
+use Rattle.catalog.specs.Walk.{number_from, dataset_number_in, dataset_named, sources_in, HasMember, IsNested, IsCatalog, IsWalked}
+use Rattle.catalog.specs.Links.{member_in, source_at, member_at}
 use Rattle.catalog.specs.Pixels.{size_of, shown, band_pixel, content_pixel, pixel_step, pixel_within, found_in_folder, told, file_pixel, pixel_of, pixel_of_name, member_size, member_pixel, TakesMember, AreOfMembers}
 use Rattle.catalog.specs.Places.{block_rect_of, row_by_row}
 use Rattle.catalog.specs.Blocks.{block_by, block_pixels}
@@ -42,11 +42,11 @@ place_found (c ∷ cs) at id name is = place_step c cs at id name (bytes_eq c.he
 
 record Named (cat : List Dataset) (name : List ℕ) (d : Dataset) : Type 0 where
   number : ℕ
-  found : number_of cat name ≡ Some number
+  found : dataset_number_in cat name ≡ Some number
   there : slice_get cat number ≡ Some d
   named : d.head.name ≡ name
 
-named_by : (cat : List Dataset) (name : List ℕ) (d : Dataset) (n : Option ℕ) → number_of cat name ≡ n → option_and_then (slice_get cat) n ≡ Some d → Named cat name d
+named_by : (cat : List Dataset) (name : List ℕ) (d : Dataset) (n : Option ℕ) → dataset_number_in cat name ≡ n → option_and_then (slice_get cat) n ≡ Some d → Named cat name d
 named_by cat name d None found is = absurd (none≢some is)
 named_by cat name d (Some id) found is =
     let p = place_found cat 0 id name found in
@@ -55,7 +55,7 @@ named_by cat name d (Some id) found is =
     record { number = id; found = found; there = is; named = ap (λ (x : Dataset). x.head.name) (sym same) ∙ p.named }
 
 named_is : (cat : List Dataset) (name : List ℕ) (d : Dataset) → dataset_named cat name ≡ Some d → Named cat name d
-named_is cat name d is = named_by cat name d (number_of cat name) refl is
+named_is cat name d is = named_by cat name d (dataset_number_in cat name) refl is
 
 -- ways to find the datasets of a catalog
 
@@ -133,11 +133,11 @@ source_member cat d band source s nested is =
     item P b.0.sources source s (part P (λ (v : BandValue). v.sources) doc.0.bands band b.0 (subst (λ c. All P (sources_in c)) (is_mosaic d.content doc.0 doc.1) nested) b.1) b.2
 
 -- the number of the dataset that a source names
-member_named : (cat : List Dataset) (base : List ℕ) (s : SourceValue) (P : Dataset → Type 0) (t : HasMember P cat base s) (n : ℕ) → number_of cat t.name ≡ Some n → member_of cat base s ≡ Some n
-member_named cat base s P t n found = ap (option_and_then (number_of cat)) (when_ok (source_name base s) _ t.name t.resolves) ∙ found
+member_named : (cat : List Dataset) (base : List ℕ) (s : SourceValue) (P : Dataset → Type 0) (t : HasMember P cat base s) (n : ℕ) → dataset_number_in cat t.name ≡ Some n → member_in cat base s ≡ Some n
+member_named cat base s P t n found = ap (option_and_then (dataset_number_in cat)) (when_ok (source_name base s) _ t.name t.resolves) ∙ found
 
-member_is : (cat : List Dataset) (d : Dataset) (band source : ℕ) (s : SourceValue) (P : Dataset → Type 0) (t : HasMember P cat d.head.name s) (n : ℕ) → source_at d band source ≡ Some s → number_of cat t.name ≡ Some n → member_at cat d band source ≡ Some n
-member_is cat d band source s P t n is found = ap (λ (o : Option SourceValue). o >>= λ s. member_of cat d.head.name s) is ∙ member_named cat d.head.name s P t n found
+member_is : (cat : List Dataset) (d : Dataset) (band source : ℕ) (s : SourceValue) (P : Dataset → Type 0) (t : HasMember P cat d.head.name s) (n : ℕ) → source_at d band source ≡ Some s → dataset_number_in cat t.name ≡ Some n → member_at cat d band source ≡ Some n
+member_is cat d band source s P t n is found = ap (λ (o : Option SourceValue). o >>= λ s. member_in cat d.head.name s) is ∙ member_named cat d.head.name s P t n found
 
 pub has_member : (cat : List Dataset) (id band source : ℕ) (d : Dataset) (s : SourceValue) → IsCatalog cat → slice_get cat id ≡ Some d → source_at d band source ≡ Some s → TakesMember cat d band source s
 has_member cat id band source d s is at stands =

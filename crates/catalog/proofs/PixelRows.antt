@@ -14,7 +14,7 @@ use Rattle.geotransform.specs.declared.types.PixelType.TheVariants.{Int16}
 use Rattle.outside.specs.Outside.{Files}
 use Rattle.outside.specs.Names.{folder_part, extension_of, extension_of_ending, ending_of, last_part, header_of}
 use Rattle.outside.specs.Paths.{normal}
-use Rattle.esri_hdr.specs.Head.{Head, esri_head, head_of, shape_of, rows_of, geo_of, place_in, step_in, geo_in, nodata_in}
+use Rattle.esri_hdr.specs.Head.{Head, esri_head, head_of, shape_of, row_keys_of, geo_of, place_in, step_in, geo_in, nodata_in}
 use Rattle.esri_hdr.specs.Lines.{entry_at}
 use Rattle.esri_hdr.specs.Values as values
 use Rattle.esri_hdr.specs.Values.{side_in, bands_in, bits_in, big_endian_in, layout_in, skip_in, signed_in, row_in, band_row_in, total_row_in, gap_in}
@@ -25,7 +25,7 @@ use Rattle.vrt_markup.specs.Tree.{markup_of, root_at, end_at}
 use Rattle.vrt_profile.specs.Document.{document_of}
 use Rattle.vrt_profile.specs.Values.{SourceValue, DocumentValue, trillion}
 use Rattle.vrt_profile.specs.Cover.{cover_of}
-use Rattle.vrt_profile.specs.Value.{value_of}
+use Rattle.vrt_profile.specs.Value.{source_value}
 use Rattle.catalog.specs.declared.driver.Content.TheVariants.{File, Mosaic}
 use Rattle.catalog.specs.declared.driver.DriverHead.TheVariants.{Raw}
 use Rattle.catalog.specs.Drivers.{Dataset, dataset_of}
@@ -74,22 +74,22 @@ three pixel = map pixel (0 ∷ 1 ∷ 2 ∷ [])
 
 -- NODATA 0 shows the source below, or the band's NODATA
 see_through : (m : Files) → Samples m → three (λ x. pixel_of m (nested true (Some (pos 0))) 2 0 x 0) ≡ pos 5 ∷ negsuc 0 ∷ pos 9 ∷ []
-unfolding pixel_of normal folder_part cover_of value_of
+unfolding pixel_of normal folder_part cover_of source_value
 see_through m h = rw h.a (rw h.b refl)
 
 -- a SimpleSource hides all others
 hidden : (m : Files) → Samples m → three (λ x. pixel_of m (nested false None) 2 0 x 0) ≡ pos 0 ∷ pos 0 ∷ pos 9 ∷ []
-unfolding pixel_of normal folder_part cover_of value_of
+unfolding pixel_of normal folder_part cover_of source_value
 hidden m h = rw h.b refl
 
 -- the same through two mosaics more
 through_all : (m : Files) → Samples m → three (λ x. pixel_of m (nested true (Some (pos 0))) 4 0 x 0) ≡ pos 5 ∷ negsuc 0 ∷ pos 9 ∷ []
-unfolding pixel_of normal folder_part cover_of value_of
+unfolding pixel_of normal folder_part cover_of source_value
 through_all m h = rw h.a (rw h.b refl)
 
 -- the block of all three
 block : (m : Files) → Samples m → block_pixels m (nested true (Some (pos 0))) 4 0 0 ≡ pos 5 ∷ negsuc 0 ∷ pos 9 ∷ []
-unfolding pixel_of normal folder_part cover_of value_of row_by_row
+unfolding pixel_of normal folder_part cover_of source_value row_by_row
 block m h = rw h.a (rw h.b refl)
 
 -- one band of one source
@@ -99,12 +99,12 @@ over w s = file w (codes "c.bil") ∷ dataset_of (codes "c.vrt") (record { conte
 -- a table from 0 and 10 to 0 and 100, for -1, 3, 10 and 11
 tabled : (m : Files) → get m (codes "c.bil") ≡ Some (255 ∷ 255 ∷ 3 ∷ 0 ∷ 10 ∷ 0 ∷ 11 ∷ 0 ∷ [])
     → map (λ x. pixel_of m (over 4 (record (source true None (codes "c.bil")) { lut = Some (record { input = pos 0; output = pos 0 } ∷ record { input = pos 10000000; output = pos 100000000 } ∷ []) })) 1 0 x 0) (0 ∷ 1 ∷ 2 ∷ 3 ∷ []) ≡ pos 0 ∷ pos 30 ∷ pos 100 ∷ pos 100 ∷ []
-unfolding pixel_of normal folder_part cover_of value_of
+unfolding pixel_of normal folder_part cover_of source_value
 tabled m is = rw is refl
 
 -- half of 3 and of -3
 halved : (m : Files) → get m (codes "c.bil") ≡ Some (3 ∷ 0 ∷ 253 ∷ 255 ∷ []) → map (λ x. pixel_of m (over 2 (record (source true None (codes "c.bil")) { ratio = pos 500000000000 })) 1 0 x 0) (0 ∷ 1 ∷ []) ≡ pos 2 ∷ negsuc 1 ∷ []
-unfolding pixel_of normal folder_part cover_of value_of
+unfolding pixel_of normal folder_part cover_of source_value
 halved m is = rw is refl
 
 -- by name
@@ -136,7 +136,7 @@ abbrev header_text : List ℕ
 header_text = codes "NROWS 1" ++ 10 ∷ codes "NCOLS 3" ++ 10 ∷ codes "NBITS 16" ++ 10 ∷ codes "PIXELTYPE SIGNEDINT"
 
 header_read : esri_head header_text ≡ Ok (header 3)
-unfolding esri_head head_of shape_of rows_of geo_of place_in step_in geo_in nodata_in entry_at side_in bands_in bits_in big_endian_in layout_in skip_in signed_in values.type_of_bits row_in band_row_in total_row_in gap_in
+unfolding esri_head head_of shape_of row_keys_of geo_of place_in step_in geo_in nodata_in entry_at side_in bands_in bits_in big_endian_in layout_in skip_in signed_in values.type_of_bits row_in band_row_in total_row_in gap_in
 header_read = refl
 
 abbrev text_of : List ℕ → List ℕ
@@ -194,5 +194,5 @@ o_found m h = rw h.third (rw o_read refl)
 
 -- the bytes of the files alone tell the pixels through three mosaics
 named : (m : Files) → Holds m → three (λ x. pixel_of_name m (codes "o.vrt") 0 x 0) ≡ pos 5 ∷ negsuc 0 ∷ pos 9 ∷ []
-unfolding pixel_of_name normal folder_part cover_of value_of
+unfolding pixel_of_name normal folder_part cover_of source_value
 named m h = rw (o_found m h) (rw (n_found m h) (rw (m_found m h) (rw (a_found m h) (rw (b_found m h) (rw h.samples.a (rw h.samples.b refl))))))

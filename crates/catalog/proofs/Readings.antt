@@ -12,7 +12,8 @@ use Rattle.catalog.specs.declared.driver.DriverHead.TheVariants.{Raw, Dted, Hgt,
 use Rattle.catalog.specs.declared.driver.Content.{Content}
 use Rattle.catalog.specs.declared.driver.Content.TheVariants.{File, Mosaic}
 use Rattle.catalog.specs.declared.faults.WalkFault.{WalkFault}
-use Rattle.catalog.specs.Drivers.{Dataset, content_kind}
+use Rattle.catalog.specs.Drivers.{Dataset}
+use Rattle.catalog.specs.OwnFiles.{content_kind}
 use Rattle.catalog.specs.Heads.{kind_in, dataset_by, dataset_in}
 use Rattle.catalog.specs.Readings.{calls_to_find, calls_to_open, calls_to_open_all}
 

@@ -7,7 +7,7 @@ use Rattle.std.proofs.lemmas.Option.{slice_get_within}
 use Rattle.lists_and_answers.specs.Lists.{flattened}
 use Rattle.vrt_profile.specs.Values.{SourceValue, BandValue}
 use Rattle.catalog.specs.declared.links.Link.{Link}
-use Rattle.catalog.specs.Linked.{State, IsMember, Each, AreRows, height_at, most, first_above}
+use Rattle.catalog.specs.Linked.{State, IsMember, Each, AreMemberRows, height_at, most, first_above}
 
 pub most_append : (links : List (Option Link)) (a b : List ℕ) → most links (a ++ b) ≡ max (most links a) (most links b)
 most_append links [] b = omega arith
@@ -74,7 +74,7 @@ members_known st base [] (id ∷ ids) all = absurd all
 members_known st base (s ∷ ss) [] all = absurd all
 members_known st base (s ∷ ss) (id ∷ ids) all = All-cons (λ id. id < length st.links) id ids (slice_get_within st.links id (Some all.0.link) all.0.whole) (members_known st base ss ids all.1)
 
-pub rows_known : (st : State) (base : List ℕ) (bands : List BandValue) (rows : List (List ℕ)) → AreRows st base bands rows → All (λ row. All (λ id. id < length st.links) row) rows
+pub rows_known : (st : State) (base : List ℕ) (bands : List BandValue) (rows : List (List ℕ)) → AreMemberRows st base bands rows → All (λ row. All (λ id. id < length st.links) row) rows
 rows_known st base [] [] all = All-nil (λ row. All (λ id. id < length st.links) row)
 rows_known st base [] (row ∷ rows) all = absurd all
 rows_known st base (b ∷ bands) [] all = absurd all

@@ -11,7 +11,7 @@ use Rattle.catalog.specs.declared.driver.Content.{Content}
 use Rattle.catalog.specs.declared.driver.Content.TheVariants.{File, Mosaic}
 use Rattle.catalog.specs.declared.links.Link.{Link}
 use Rattle.catalog.specs.Drivers.{Dataset}
-use Rattle.catalog.specs.Walk.{number_of, sources_in, sources_among, IsDataset, IsApart}
+use Rattle.catalog.specs.Walk.{dataset_number_in, sources_in, sources_among, IsDataset, IsApart}
 use Rattle.catalog.specs.Linked.{State, is_waiting, is_open, IsLinkOf, IsLink, IsMet, IsLinked, IsOff, Grows, Goes, IsPath, pushed, met_whole, one_counted}
 use Rattle.catalog.proofs.Found.{some_is, found, flat_rows, rows_stay, most_stays}
 use Rattle.catalog.proofs.Numbers.{number_kept, number_of_added, number_of_other, apart_more}
@@ -114,7 +114,7 @@ goes_one st linked room = record {
 pub grows_pushed : (st : State) (d : Dataset) (x : Option Link) → Grows st (pushed st d x)
 grows_pushed st d x = record { datasets = λ id e is. front_item st.datasets (d ∷ []) id e is; links = λ id l is. front_item st.links (x ∷ []) id (Some l) is }
 
-pub linked_pushed : (st : State) (d : Dataset) (x : Option Link) → IsLinked st → length st.datasets < 65536 → number_of st.datasets d.head.name ≡ None → IsDataset d → ((l : Link) → x ≡ Some l → IsLink (pushed st d x) d l) → IsLinked (pushed st d x)
+pub linked_pushed : (st : State) (d : Dataset) (x : Option Link) → IsLinked st → length st.datasets < 65536 → dataset_number_in st.datasets d.head.name ≡ None → IsDataset d → ((l : Link) → x ≡ Some l → IsLink (pushed st d x) d l) → IsLinked (pushed st d x)
 linked_pushed st d x linked room fresh valid link = record {
   long = omega (arith, length-append st.links (x ∷ []), length-append st.datasets (d ∷ []), linked.long);
   each = All-append IsDataset st.datasets (d ∷ []) linked.each (All-cons IsDataset d [] valid (All-nil IsDataset));
@@ -132,10 +132,10 @@ linked_pushed st d x linked room fresh valid link = record {
 
 -- what is open
 
-pub open_known : (st : State) (name : List ℕ) (id : ℕ) (x : Option (Option Link)) → number_of st.datasets name ≡ Some id → slice_get st.links id ≡ x → is_open st name ≡ is_waiting x
+pub open_known : (st : State) (name : List ℕ) (id : ℕ) (x : Option (Option Link)) → dataset_number_in st.datasets name ≡ Some id → slice_get st.links id ≡ x → is_open st name ≡ is_waiting x
 open_known st name id x is at = ap (λ o. is_waiting (option_and_then (slice_get st.links) o)) is ∙ ap is_waiting at
 
-pub open_unknown : (st : State) (name : List ℕ) → number_of st.datasets name ≡ None → is_open st name ≡ false
+pub open_unknown : (st : State) (name : List ℕ) → dataset_number_in st.datasets name ≡ None → is_open st name ≡ false
 open_unknown st name none = ap (λ o. is_waiting (option_and_then (slice_get st.links) o)) none
 
 -- a dataset that was met whole isn't open
@@ -146,18 +146,18 @@ met_shut st linked id d l met = open_known st d.head.name id (Some (Some l)) (li
 pub off_path : (st : State) → IsLinked st → (path : List (List ℕ)) → IsPath st path → (height : ℕ) → IsOff st path height
 off_path st linked path is height id d l at whole low = is d.head.name ∙ met_shut st linked id d l (record { at = at; whole = whole })
 
-open_pushed : (st : State) (d : Dataset) (x : Option Link) → IsLinked st → number_of st.datasets d.head.name ≡ None → (name : List ℕ) → is_open (pushed st d x) name ≡ cond (bytes_eq d.head.name name) (is_waiting (Some x)) (is_open st name)
-open_pushed st d x linked fresh name = by_number (number_of st.datasets name) refl (bytes_eq d.head.name name) refl
+open_pushed : (st : State) (d : Dataset) (x : Option Link) → IsLinked st → dataset_number_in st.datasets d.head.name ≡ None → (name : List ℕ) → is_open (pushed st d x) name ≡ cond (bytes_eq d.head.name name) (is_waiting (Some x)) (is_open st name)
+open_pushed st d x linked fresh name = by_number (dataset_number_in st.datasets name) refl (bytes_eq d.head.name name) refl
   where
-    new : number_of st.datasets name ≡ None → (b : Bool) → bytes_eq d.head.name name ≡ b → is_open (pushed st d x) name ≡ cond b (is_waiting (Some x)) (is_open st name)
+    new : dataset_number_in st.datasets name ≡ None → (b : Bool) → bytes_eq d.head.name name ≡ b → is_open (pushed st d x) name ≡ cond b (is_waiting (Some x)) (is_open st name)
     new none true e =
         let place : slice_get (st.links ++ x ∷ []) (length st.datasets) ≡ Some x = ap (slice_get (st.links ++ x ∷ [])) (sym linked.long) ∙ last_item st.links x in
         open_known (pushed st d x) name (length st.datasets) (Some x) (number_of_added st.datasets d name none ((bytes_eq-Decides d.head.name name).0 e)) place
     new none false e = open_unknown (pushed st d x) name (number_of_other 0 st.datasets d name none e) ∙ sym (open_unknown st name none)
 
-    by_number : (o : Option ℕ) → number_of st.datasets name ≡ o → (b : Bool) → bytes_eq d.head.name name ≡ b → is_open (pushed st d x) name ≡ cond b (is_waiting (Some x)) (is_open st name)
+    by_number : (o : Option ℕ) → dataset_number_in st.datasets name ≡ o → (b : Bool) → bytes_eq d.head.name name ≡ b → is_open (pushed st d x) name ≡ cond b (is_waiting (Some x)) (is_open st name)
     by_number None none b e = new none b e
-    by_number (Some id) is true e = absurd (none≢some (sym fresh ∙ ap (number_of st.datasets) ((bytes_eq-Decides d.head.name name).0 e) ∙ is))
+    by_number (Some id) is true e = absurd (none≢some (sym fresh ∙ ap (dataset_number_in st.datasets) ((bytes_eq-Decides d.head.name name).0 e) ∙ is))
     by_number (Some id) is false e =
         let f = found st.datasets name id is in
         let there = item_there st.links id (omega (arith, slice_get_within st.datasets id f.dataset f.at, linked.long)) in
@@ -165,7 +165,7 @@ open_pushed st d x linked fresh name = by_number (number_of st.datasets name) re
         ∙ sym (open_known st name id (Some there.0) is there.1)
 
 -- a mosaic that is met comes onto the path
-pub path_pushed : (st : State) (d : Dataset) (path : List (List ℕ)) → IsLinked st → number_of st.datasets d.head.name ≡ None → IsPath st path → IsPath (pushed st d None) (d.head.name ∷ path)
+pub path_pushed : (st : State) (d : Dataset) (path : List (List ℕ)) → IsLinked st → dataset_number_in st.datasets d.head.name ≡ None → IsPath st path → IsPath (pushed st d None) (d.head.name ∷ path)
 path_pushed st d path linked fresh is name = by_test (bytes_eq d.head.name name) ∙ sym (open_pushed st d None linked fresh name)
   where
     by_test : (b : Bool) → (b || is_among path name) ≡ cond b true (is_open st name)
@@ -207,7 +207,7 @@ linked_closed st id d l linked at waits link = record {
 open_closed : (st : State) (id : ℕ) (d : Dataset) (l : Link) → IsLinked st → slice_get st.datasets id ≡ Some d → slice_get st.links id ≡ Some None → (name : List ℕ) → is_open (met_whole st id l) name ≡ cond (bytes_eq d.head.name name) false (is_open st name)
 open_closed st id d l linked at waits name = by_test (bytes_eq d.head.name name) refl
   where
-    other : (b : Bool) → bytes_eq d.head.name name ≡ false → (o : Option ℕ) → number_of st.datasets name ≡ o → is_open (met_whole st id l) name ≡ is_open st name
+    other : (b : Bool) → bytes_eq d.head.name name ≡ false → (o : Option ℕ) → dataset_number_in st.datasets name ≡ o → is_open (met_whole st id l) name ≡ is_open st name
     other b e None none = open_unknown (met_whole st id l) name none ∙ sym (open_unknown st name none)
     other b e (Some k) is =
         let f = found st.datasets name k is in
@@ -215,14 +215,14 @@ open_closed st id d l linked at waits name = by_test (bytes_eq d.head.name name)
         open_known (met_whole st id l) name k (slice_get st.links k) is (set_other st.links id k (Some l) apart) ∙ sym (open_known st name k (slice_get st.links k) is refl)
 
     by_test : (b : Bool) → bytes_eq d.head.name name ≡ b → is_open (met_whole st id l) name ≡ cond b false (is_open st name)
-    by_test true e = open_known (met_whole st id l) name id (Some (Some l)) (sym (ap (number_of st.datasets) ((bytes_eq-Decides d.head.name name).0 e)) ∙ linked.apart id d at) (set_same st.links id (Some l) (slice_get_within st.links id None waits))
-    by_test false e = other false e (number_of st.datasets name) refl
+    by_test true e = open_known (met_whole st id l) name id (Some (Some l)) (sym (ap (dataset_number_in st.datasets) ((bytes_eq-Decides d.head.name name).0 e)) ∙ linked.apart id d at) (set_same st.links id (Some l) (slice_get_within st.links id None waits))
+    by_test false e = other false e (dataset_number_in st.datasets name) refl
 
 among_pushed : (st : State) (d : Dataset) (x : Option Link) → sources_among (pushed st d x).datasets ≡ sources_among st.datasets + length (sources_in d.content)
 among_pushed st d x = let e = sum_by-append (λ (d : Dataset). length (sources_in d.content)) st.datasets (d ∷ []) in omega arith
 
 -- a file is met: it is met whole at once
-pub goes_file : (st : State) (d : Dataset) (l : Link) → IsLinked st → IsLinked (pushed st d (Some l)) → number_of st.datasets d.head.name ≡ None → sources_in d.content ≡ [] → Goes 0 st (pushed st d (Some l))
+pub goes_file : (st : State) (d : Dataset) (l : Link) → IsLinked st → IsLinked (pushed st d (Some l)) → dataset_number_in st.datasets d.head.name ≡ None → sources_in d.content ≡ [] → Goes 0 st (pushed st d (Some l))
 goes_file st d l linked after fresh none = record {
   linked = after;
   same_open = λ name. by_test name (bytes_eq d.head.name name) refl ∙ sym (open_pushed st d (Some l) linked fresh name);
@@ -230,11 +230,11 @@ goes_file st d l linked after fresh none = record {
 }
   where
     by_test : (name : List ℕ) (b : Bool) → bytes_eq d.head.name name ≡ b → is_open st name ≡ cond b false (is_open st name)
-    by_test name true e = open_unknown st name (sym (ap (number_of st.datasets) ((bytes_eq-Decides d.head.name name).0 e)) ∙ fresh)
+    by_test name true e = open_unknown st name (sym (ap (dataset_number_in st.datasets) ((bytes_eq-Decides d.head.name name).0 e)) ∙ fresh)
     by_test name false e = refl
 
 -- a mosaic is met: it is open while the walk goes through its sources, and then it is met whole
-pub goes_mosaic : (st after : State) (d : Dataset) (id : ℕ) (l : Link) → IsLinked st → IsLinked (pushed st d None) → number_of st.datasets d.head.name ≡ None → Goes (length (sources_in d.content)) (pushed st d None) after → slice_get after.datasets id ≡ Some d → slice_get after.links id ≡ Some None → IsLink after d l → Goes 0 st (met_whole after id l)
+pub goes_mosaic : (st after : State) (d : Dataset) (id : ℕ) (l : Link) → IsLinked st → IsLinked (pushed st d None) → dataset_number_in st.datasets d.head.name ≡ None → Goes (length (sources_in d.content)) (pushed st d None) after → slice_get after.datasets id ≡ Some d → slice_get after.links id ≡ Some None → IsLink after d l → Goes 0 st (met_whole after id l)
 goes_mosaic st after d id l linked first fresh goes at waits link = record {
   linked = linked_closed after id d l goes.linked at waits link;
   same_open = λ name. by_test name (bytes_eq d.head.name name) refl ∙ sym (open_closed after id d l goes.linked at waits name);
@@ -242,11 +242,11 @@ goes_mosaic st after d id l linked first fresh goes at waits link = record {
 }
   where
     by_test : (name : List ℕ) (b : Bool) → bytes_eq d.head.name name ≡ b → is_open st name ≡ cond b false (is_open after name)
-    by_test name true e = open_unknown st name (sym (ap (number_of st.datasets) ((bytes_eq-Decides d.head.name name).0 e)) ∙ fresh)
+    by_test name true e = open_unknown st name (sym (ap (dataset_number_in st.datasets) ((bytes_eq-Decides d.head.name name).0 e)) ∙ fresh)
     by_test name false e = sym (ap (λ b. cond b true (is_open st name)) e) ∙ sym (open_pushed st d None linked fresh name) ∙ goes.same_open name
 
 -- the mosaic stays open while the walk goes through its sources
-pub stays_open : (st after : State) (d : Dataset) (n : ℕ) → IsLinked st → number_of st.datasets d.head.name ≡ None → IsLinked (pushed st d None) → Grows (pushed st d None) after → Goes n (pushed st d None) after → slice_get after.links (length st.datasets) ≡ Some None
+pub stays_open : (st after : State) (d : Dataset) (n : ℕ) → IsLinked st → dataset_number_in st.datasets d.head.name ≡ None → IsLinked (pushed st d None) → Grows (pushed st d None) after → Goes n (pushed st d None) after → slice_get after.links (length st.datasets) ≡ Some None
 stays_open st after d n linked fresh first grows goes =
     let at : slice_get after.datasets (length st.datasets) ≡ Some d = grows.datasets (length st.datasets) d (last_item st.datasets d) in
     let there = item_there after.links (length st.datasets) (omega (arith, slice_get_within after.datasets (length st.datasets) d at, goes.linked.long)) in

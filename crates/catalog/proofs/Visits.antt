@@ -15,14 +15,14 @@ use Rattle.catalog.specs.declared.faults.WalkFault.TheVariants.{Cycle, TooDeep, 
 use Rattle.catalog.specs.Outcomes.{IsOutside}
 use Rattle.catalog.specs.Drivers.{Dataset}
 use Rattle.catalog.specs.Heads.{kind_in, dataset_by, resolved}
-use Rattle.catalog.specs.Walk.{Met, number_of, dataset_named, sources_in, unless_on, room_for, one_more_source, unless_no_samples, again_below, again_step, again, visit_source, visit_sources, first_met, met_or_first, visit_step, visit}
+use Rattle.catalog.specs.Walk.{Met, dataset_number_in, dataset_named, sources_in, unless_on, room_for, one_more_source, unless_no_samples, again_below, again_step, again, visit_source, visit_sources, first_met, met_or_first, visit_step, visit}
 use Rattle.catalog.proofs.Again.{again_begins}
 
 -- names of no kind
 
 step_unknown : (below : List (List ℕ) → Met → List ℕ → Result Met WalkFault) (m : Files) (verify : Bool) (room : ℕ) (path : List (List ℕ)) (met : Met) (name : List ℕ) (fault : WalkFault) → kind_in name ≡ Err fault → visit_step below m verify room path met name ≡ Err fault
 unfolding visit_step
-step_unknown below m verify room path met name fault is = ap (λ r. r >>= λ kind. unless_on path name >>= λ free. room_for room kind name >>= λ shallow. met_or_first below m verify room kind path met name (number_of met.datasets name)) is
+step_unknown below m verify room path met name fault is = ap (λ r. r >>= λ kind. unless_on path name >>= λ free. room_for room kind name >>= λ shallow. met_or_first below m verify room kind path met name (dataset_number_in met.datasets name)) is
 
 pub visit_unknown : (m : Files) (verify : Bool) (room : ℕ) (path : List (List ℕ)) (met : Met) (name : List ℕ) (fault : WalkFault) → kind_in name ≡ Err fault → visit m verify room path met name ≡ Err fault
 visit_unknown m verify zero path met name fault is = step_unknown (λ p a n. Ok a) m verify zero path met name fault is
@@ -33,8 +33,8 @@ visit_unknown m verify (suc room) path met name fault is = step_unknown (λ p a 
 step_cycle : (below : List (List ℕ) → Met → List ℕ → Result Met WalkFault) (m : Files) (verify : Bool) (room : ℕ) (path : List (List ℕ)) (met : Met) (name : List ℕ) (kind : Kind) → kind_in name ≡ Ok kind → is_among path name ≡ true → visit_step below m verify room path met name ≡ Err (Cycle name)
 unfolding visit_step
 step_cycle below m verify room path met name kind is on =
-    ap (λ r. r >>= λ kind. unless_on path name >>= λ free. room_for room kind name >>= λ shallow. met_or_first below m verify room kind path met name (number_of met.datasets name)) is
-    ∙ ap (λ b. cond b (Err (Cycle name)) (Ok tt) >>= λ free. room_for room kind name >>= λ shallow. met_or_first below m verify room kind path met name (number_of met.datasets name)) on
+    ap (λ r. r >>= λ kind. unless_on path name >>= λ free. room_for room kind name >>= λ shallow. met_or_first below m verify room kind path met name (dataset_number_in met.datasets name)) is
+    ∙ ap (λ b. cond b (Err (Cycle name)) (Ok tt) >>= λ free. room_for room kind name >>= λ shallow. met_or_first below m verify room kind path met name (dataset_number_in met.datasets name)) on
 
 pub visit_cycle : (m : Files) (verify : Bool) (room : ℕ) (path : List (List ℕ)) (met : Met) (name : List ℕ) (kind : Kind) → kind_in name ≡ Ok kind → is_among path name ≡ true → visit m verify room path met name ≡ Err (Cycle name)
 visit_cycle m verify zero path met name kind is on = step_cycle (λ p a n. Ok a) m verify zero path met name kind is on
@@ -42,18 +42,18 @@ visit_cycle m verify (suc room) path met name kind is on = step_cycle (λ p a n.
 
 -- other names
 step_begins : (below : List (List ℕ) → Met → List ℕ → Result Met WalkFault) (m : Files) (verify : Bool) (room : ℕ) (path : List (List ℕ)) (met : Met) (name : List ℕ) (kind : Kind) → kind_in name ≡ Ok kind → is_among path name ≡ false
-    → visit_step below m verify room path met name ≡ (room_for room kind name >>= λ shallow. met_or_first below m verify room kind path met name (number_of met.datasets name))
+    → visit_step below m verify room path met name ≡ (room_for room kind name >>= λ shallow. met_or_first below m verify room kind path met name (dataset_number_in met.datasets name))
 unfolding visit_step
 step_begins below m verify room path met name kind is off =
-    ap (λ r. r >>= λ kind. unless_on path name >>= λ free. room_for room kind name >>= λ shallow. met_or_first below m verify room kind path met name (number_of met.datasets name)) is
-    ∙ ap (λ b. cond b (Err (Cycle name)) (Ok tt) >>= λ free. room_for room kind name >>= λ shallow. met_or_first below m verify room kind path met name (number_of met.datasets name)) off
+    ap (λ r. r >>= λ kind. unless_on path name >>= λ free. room_for room kind name >>= λ shallow. met_or_first below m verify room kind path met name (dataset_number_in met.datasets name)) is
+    ∙ ap (λ b. cond b (Err (Cycle name)) (Ok tt) >>= λ free. room_for room kind name >>= λ shallow. met_or_first below m verify room kind path met name (dataset_number_in met.datasets name)) off
 
 -- a mosaic for which there is no room
 pub visit_deep : (m : Files) (verify : Bool) (path : List (List ℕ)) (met : Met) (name : List ℕ) → kind_in name ≡ Ok kinds.Vrt → is_among path name ≡ false → visit m verify 0 path met name ≡ Err (TooDeep name)
 visit_deep m verify path met name is off = step_begins (λ p a n. Ok a) m verify zero path met name kinds.Vrt is off
 
 -- a name that was met: where there is no room for it, its own checks say so too
-step_again : (below : List (List ℕ) → Met → List ℕ → Result Met WalkFault) (down : List (List ℕ) → List ℕ → Result (Unit {0}) WalkFault) (m : Files) (verify : Bool) (room : ℕ) (path : List (List ℕ)) (met : Met) (name : List ℕ) (kind : Kind) (id : ℕ) → kind_in name ≡ Ok kind → is_among path name ≡ false → number_of met.datasets name ≡ Some id
+step_again : (below : List (List ℕ) → Met → List ℕ → Result Met WalkFault) (down : List (List ℕ) → List ℕ → Result (Unit {0}) WalkFault) (m : Files) (verify : Bool) (room : ℕ) (path : List (List ℕ)) (met : Met) (name : List ℕ) (kind : Kind) (id : ℕ) → kind_in name ≡ Ok kind → is_among path name ≡ false → dataset_number_in met.datasets name ≡ Some id
     → again_step down room met.datasets path name ≡ again room met.datasets path name → visit_step below m verify room path met name ≡ (again room met.datasets path name >>= λ checked. Ok met)
 step_again below down m verify room path met name kind id is off number begins =
     step_begins below m verify room path met name kind is off
@@ -64,18 +64,18 @@ step_again below down m verify room path met name kind id is off number begins =
     by_room (Ok done) e = refl
     by_room (Err fault) e = sym (ap (λ r. r >>= λ checked. Ok met) e)
 
-pub visit_again : (m : Files) (verify : Bool) (room : ℕ) (path : List (List ℕ)) (met : Met) (name : List ℕ) (kind : Kind) (id : ℕ) → kind_in name ≡ Ok kind → is_among path name ≡ false → number_of met.datasets name ≡ Some id
+pub visit_again : (m : Files) (verify : Bool) (room : ℕ) (path : List (List ℕ)) (met : Met) (name : List ℕ) (kind : Kind) (id : ℕ) → kind_in name ≡ Ok kind → is_among path name ≡ false → dataset_number_in met.datasets name ≡ Some id
     → visit m verify room path met name ≡ (again room met.datasets path name >>= λ checked. Ok met)
 visit_again m verify zero path met name kind id is off number = step_again (λ p a n. Ok a) (λ p n. Ok tt) m verify zero path met name kind id is off number refl
 visit_again m verify (suc room) path met name kind id is off number = step_again (λ p a n. visit m verify room p a n) (λ p n. again room met.datasets p n) m verify (suc room) path met name kind id is off number refl
 
 -- names that are met for the first time
 
-step_first : (below : List (List ℕ) → Met → List ℕ → Result Met WalkFault) (m : Files) (verify : Bool) (room : ℕ) (path : List (List ℕ)) (met : Met) (name : List ℕ) (kind : Kind) → kind_in name ≡ Ok kind → is_among path name ≡ false → room_for room kind name ≡ Ok tt → number_of met.datasets name ≡ None
+step_first : (below : List (List ℕ) → Met → List ℕ → Result Met WalkFault) (m : Files) (verify : Bool) (room : ℕ) (path : List (List ℕ)) (met : Met) (name : List ℕ) (kind : Kind) → kind_in name ≡ Ok kind → is_among path name ≡ false → room_for room kind name ≡ Ok tt → dataset_number_in met.datasets name ≡ None
     → visit_step below m verify room path met name ≡ first_met below m verify kind path met name
 step_first below m verify room path met name kind is off shallow fresh =
     step_begins below m verify room path met name kind is off
-    ∙ ap (λ r. r >>= λ shallow. met_or_first below m verify room kind path met name (number_of met.datasets name)) shallow
+    ∙ ap (λ r. r >>= λ shallow. met_or_first below m verify room kind path met name (dataset_number_in met.datasets name)) shallow
     ∙ ap (λ o. met_or_first below m verify room kind path met name o) fresh
 
 first_limit : (below : List (List ℕ) → Met → List ℕ → Result Met WalkFault) (m : Files) (verify : Bool) (kind : Kind) (path : List (List ℕ)) (met : Met) (name : List ℕ) → 65536 ≤ length met.datasets → first_met below m verify kind path met name ≡ Err (Limit limits.Files 65537)
@@ -96,7 +96,7 @@ pub record IsFirst (room : ℕ) (path : List (List ℕ)) (met : Met) (name : Lis
   pub kind_is : kind_in name ≡ Ok kind
   pub off : is_among path name ≡ false
   pub shallow : room_for room kind name ≡ Ok tt
-  pub fresh : number_of met.datasets name ≡ None
+  pub fresh : dataset_number_in met.datasets name ≡ None
 
 pub visit_limit : (m : Files) (verify : Bool) (room : ℕ) (path : List (List ℕ)) (met : Met) (name : List ℕ) (kind : Kind) → IsFirst room path met name kind → 65536 ≤ length met.datasets → visit m verify room path met name ≡ Err (Limit limits.Files 65537)
 visit_limit m verify zero path met name kind is full = step_first (λ p a n. Ok a) m verify zero path met name kind is.kind_is is.off is.shallow is.fresh ∙ first_limit (λ p a n. Ok a) m verify kind path met name full

@@ -4,7 +4,7 @@ use Rattle.std.specs.Prelude.{All, slice_get}
 use Rattle.std.proofs.lemmas.Option.{slice_get_within, get_or_from_slice_get}
 use Rattle.catalog.specs.declared.links.Link.{Link}
 use Rattle.catalog.specs.Drivers.{Dataset}
-use Rattle.catalog.specs.Walk.{number_of, sources_among, IsNested}
+use Rattle.catalog.specs.Walk.{dataset_number_in, sources_among, IsNested}
 use Rattle.catalog.specs.Linked.{State, is_open, Grows, Goes, IsWholeWalk, IsPath, cut_to}
 use Rattle.catalog.proofs.Found.{found}
 use Rattle.catalog.proofs.Heights.{nested_is}
@@ -12,9 +12,9 @@ use Rattle.catalog.proofs.States.{open_known, open_unknown, item_there, front_st
 
 -- no name is open
 pub none_open : (st : State) → IsWholeWalk st → (name : List ℕ) → is_open st name ≡ false
-none_open st whole name = by_number (number_of st.datasets name) refl
+none_open st whole name = by_number (dataset_number_in st.datasets name) refl
   where
-    by_number : (o : Option ℕ) → number_of st.datasets name ≡ o → is_open st name ≡ false
+    by_number : (o : Option ℕ) → dataset_number_in st.datasets name ≡ o → is_open st name ≡ false
     by_number None none = open_unknown st name none
     by_number (Some id) is =
         let f = found st.datasets name id is in

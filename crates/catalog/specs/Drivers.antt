@@ -14,7 +14,6 @@ use Rattle.hgt_tiles.specs.Places as hgt_places
 use Rattle.ascii_grid.specs.Grid as ascii
 use Rattle.vrt_profile.specs.Values.{DocumentValue, IsDocument, longest_document}
 use Rattle.catalog.specs.declared.kind.BandHead.{BandHead}
-use Rattle.catalog.specs.declared.kind.Kind.{Kind}
 use Rattle.catalog.specs.declared.kind.Kind.TheVariants as kinds
 use Rattle.catalog.specs.declared.driver.Found.{Found}
 use Rattle.catalog.specs.declared.driver.DriverHead.{DriverHead}
@@ -118,22 +117,10 @@ head_told name (Dted h) = dted_dataset_head name h
 head_told name (Hgt side) = hgt_dataset_head name side
 head_told name (Ascii h) = ascii_dataset_head name h
 
--- the kind of the head of a file
-abbrev pub driver_kind : DriverHead → Kind
-driver_kind (Raw h) = kinds.Raw
-driver_kind (Dted h) = kinds.Dted
-driver_kind (Hgt side) = kinds.Hgt
-driver_kind (Ascii h) = kinds.Ascii
-
 -- what the content of a dataset under a name says of it
 abbrev pub content_head : List ℕ → Content → DatasetHead
 content_head name (File h) = head_told name h
 content_head name (Mosaic d) = mosaic_head name d
-
--- the kind of a content
-abbrev pub content_kind : Content → Kind
-content_kind (File h) = driver_kind h
-content_kind (Mosaic d) = kinds.Vrt
 
 -- the head of the data, where it is a file
 abbrev pub driver_of : Content → Option DriverHead
@@ -152,11 +139,6 @@ IsOfKind name (Dted h) = dted.IsHead h
 IsOfKind name (Hgt side) = ((p : hgt_names.Place) × (hgt_names.corner_of (last_part name) ≡ Some p)) ×
     hgt_places.IsSide side
 IsOfKind name (Ascii h) = ascii.IsHead h
-
--- the same of a content; a document keeps its rules
-abbrev pub IsOfContent : List ℕ → Content → Type 0
-IsOfContent name (File h) = IsOfKind name h
-IsOfContent name (Mosaic d) = IsDocument d
 
 -- a file has as many bytes as the head of its data asks, and the rows of a grid stand in it one behind the other
 abbrev pub IsLongEnough : DriverHead → ℕ → Type 0

@@ -201,20 +201,6 @@ IsOwnFault bad.List = Unit {0}
 abbrev pub OwnsFaults : {T : Type 0} → Result T WalkFault → Type 0
 OwnsFaults result = (name : List ℕ) (b : Bad) → result ≡ Err (Malformed name b) → IsOwnFault b
 
--- What the own files of a dataset are refused for: that one isn't there, isn't of its form or is too short. Else it is
--- what failed outside.
-abbrev pub IsOfFile : WalkFault → Type 0
-IsOfFile (Absent name) = Unit {0}
-IsOfFile (NotRecognized name) = ⊥
-IsOfFile (Malformed name b) = IsOwnFault b
-IsOfFile (Short name needed has) = Unit {0}
-IsOfFile (Cycle name) = ⊥
-IsOfFile (TooDeep name) = ⊥
-IsOfFile (Limit what value) = ⊥
-IsOfFile (SourceBand name band) = ⊥
-IsOfFile FolderFault = Unit {0}
-IsOfFile Memory = Unit {0}
-
 -- the same, or that a name tells no kind, or that the name of a source is too long; and nothing that only a walk finds
 abbrev pub IsOfHead : WalkFault → Type 0
 IsOfHead (Absent name) = Unit {0}
@@ -232,7 +218,3 @@ IsOfHead Memory = Unit {0}
 pub record RefusesUnknown {T : Type 0} (name : List ℕ) (result : Result T WalkFault) : Type 0 where
   pub always : (fault : WalkFault) → kind_in name ≡ Err fault → (result ≡ Err fault) ⊎ (result ≡ Err Memory)
   pub only : (n : List ℕ) → result ≡ Err (NotRecognized n) → kind_in name ≡ Err (NotRecognized n)
-
--- over a folder that tells its names, the file of a name is there, and the open file has its bytes
-abbrev pub IsFile : Option Files → List ℕ → Option (List ℕ) → Type 0
-IsFile names name bytes = (m : Files) → names ≡ Some m → (b : List ℕ) × (file_in m name ≡ Ok b) × (bytes ≡ Some b)

@@ -15,5 +15,6 @@ pub mod Outcomes
 pub mod Gathered
 pub mod Linked
 pub mod Listed
+pub mod OwnFiles
 pub mod Scanned
 pub mod Walking

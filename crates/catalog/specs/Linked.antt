@@ -13,7 +13,8 @@ use Rattle.catalog.specs.declared.links.Link.{Link}
 use Rattle.catalog.specs.Dataset.{band_at, band_count, most_datasets, most_nestings}
 use Rattle.catalog.specs.Drivers.{Dataset}
 use Rattle.catalog.specs.Mosaics.{source_name}
-use Rattle.catalog.specs.Walk.{Met, again, is_narrow_band, number_of, sources_among, IsDataset, IsApart, IsCatalog}
+use Rattle.catalog.specs.Walk.{Met, again, is_narrow_band, dataset_number_in, sources_among, IsDataset, IsApart}
+use Rattle.catalog.specs.Walk.{IsCatalog}
 
 -- the datasets in the order in which they were met, the link of each that was met whole, and the number of their
 -- sources that were met
@@ -34,7 +35,7 @@ is_waiting (Some (Some l)) = false
 
 -- the mosaic of this name is open
 abbrev pub is_open : State → List ℕ → Bool
-is_open st name = is_waiting (option_and_then (slice_get st.links) (number_of st.datasets name))
+is_open st name = is_waiting (option_and_then (slice_get st.links) (dataset_number_in st.datasets name))
 
 -- the height of a dataset that was met whole
 abbrev pub height_in : Option (Option Link) → ℕ
@@ -63,7 +64,7 @@ pub record IsMember (st : State) (base : List ℕ) (s : SourceValue) (id : ℕ) 
   pub dataset : Dataset
   pub link : Link
   pub resolves : source_name base s ≡ Some name
-  pub number : number_of st.datasets name ≡ Some id
+  pub number : dataset_number_in st.datasets name ≡ Some id
   pub at : slice_get st.datasets id ≡ Some dataset
   pub whole : slice_get st.links id ≡ Some (Some link)
   pub band : s.band ≤ band_count dataset.head
@@ -77,12 +78,13 @@ Each R (x ∷ xs) [] = ⊥
 Each R (x ∷ xs) (y ∷ ys) = R x y × Each R xs ys
 
 -- the numbers of what the sources of some bands name
-abbrev pub AreRows : State → List ℕ → List BandValue → List (List ℕ) → Type 0
-AreRows st base bands rows = Each (λ (b : BandValue) (row : List ℕ). Each (IsMember st base) b.sources row) bands rows
+abbrev pub AreMemberRows : State → List ℕ → List BandValue → List (List ℕ) → Type 0
+AreMemberRows st base bands rows =
+    Each (λ (b : BandValue) (row : List ℕ). Each (IsMember st base) b.sources row) bands rows
 
 -- a mosaic is one higher than the highest dataset that its sources name
 pub record IsMosaicLink (st : State) (name : List ℕ) (doc : DocumentValue) (l : Link) : Type 0 where
-  pub rows : AreRows st name doc.bands l.members
+  pub rows : AreMemberRows st name doc.bands l.members
   pub height : l.height ≡ suc (most st.links (flattened l.members))
 
 -- the link of a content: that of a file has the height 0

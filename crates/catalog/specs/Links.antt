@@ -8,11 +8,11 @@ use Rattle.catalog.specs.declared.driver.Content.TheVariants.{File, Mosaic}
 use Rattle.catalog.specs.Dataset.{most_nestings}
 use Rattle.catalog.specs.Drivers.{Dataset, document_of}
 use Rattle.catalog.specs.Mosaics.{sources_of, source_name}
-use Rattle.catalog.specs.Walk.{number_of, dataset_named}
+use Rattle.catalog.specs.Walk.{dataset_number_in, dataset_named}
 
 -- the number of the dataset that a source of the mosaic with the name `base` names
-abbrev pub member_of : List Dataset → List ℕ → SourceValue → Option ℕ
-member_of cat base s = option_and_then (number_of cat) (source_name base s)
+abbrev pub member_in : List Dataset → List ℕ → SourceValue → Option ℕ
+member_in cat base s = option_and_then (dataset_number_in cat) (source_name base s)
 
 -- a source of a dataset, by its band and its number in the band
 abbrev pub source_at : Dataset → ℕ → ℕ → Option SourceValue
@@ -20,7 +20,7 @@ source_at d band source = document_of d.content >>= λ doc. slice_get doc.bands 
 
 -- the number of the dataset that this source names
 abbrev pub member_at : List Dataset → Dataset → ℕ → ℕ → Option ℕ
-member_at cat d band source = source_at d band source >>= λ s. member_of cat d.head.name s
+member_at cat d band source = source_at d band source >>= λ s. member_in cat d.head.name s
 
 -- the greatest of what a function gives for the datasets that sources name, or 0
 abbrev pub greatest : (Dataset → ℕ) → List Dataset → List ℕ → List SourceValue → ℕ

@@ -17,7 +17,7 @@ use Rattle.catalog.specs.Drivers.{Dataset}
 use Rattle.catalog.specs.Mosaics.{source_name}
 use Rattle.catalog.specs.Heads.{dataset_in}
 use Rattle.catalog.specs.Walk.{dataset_named, is_narrow_band}
-use Rattle.catalog.specs.Links.{member_of, source_at, member_at}
+use Rattle.catalog.specs.Links.{member_in, source_at, member_at}
 use Rattle.catalog.specs.declared.driver.Content.{Content}
 use Rattle.catalog.specs.declared.driver.Content.TheVariants.{File, Mosaic}
 use Rattle.catalog.specs.declared.driver.DriverHead.{DriverHead}
@@ -106,12 +106,12 @@ pixel_of m cat id band x y =
 
 -- The size of the dataset of a catalog that a source of a dataset names.
 abbrev pub member_size : List Dataset → Dataset → SourceValue → Size
-member_size cat d s = size_of (member_of cat d.head.name s >>= λ t. slice_get cat t)
+member_size cat d s = size_of (member_in cat d.head.name s >>= λ t. slice_get cat t)
 
 -- The pixel of the dataset that a source names, in the band that the source takes.
 abbrev pub member_pixel : Files → List Dataset → Dataset → SourceValue → ℕ → ℕ → ℤ
 member_pixel m cat d s x y =
-    unwrap_or (option_map (λ t. pixel_of m cat t (s.band - 1) x y) (member_of cat d.head.name s)) (pos 0)
+    unwrap_or (option_map (λ t. pixel_of m cat t (s.band - 1) x y) (member_in cat d.head.name s)) (pos 0)
 
 -- what a source of a band names: a dataset of the catalog that has the source's band, with samples that it takes
 pub record TakesMember (cat : List Dataset) (d : Dataset) (band source : ℕ) (s : SourceValue) : Type 0 where
@@ -125,5 +125,5 @@ pub record TakesMember (cat : List Dataset) (d : Dataset) (band source : ℕ) (s
 -- for each source of a band, this is the size of the dataset that it names, and these are the pixels of its band
 abbrev pub AreOfMembers : Files → List Dataset → Dataset → ℕ → (SourceValue → Size) → (SourceValue → ℕ → ℕ → ℤ) → Type 0
 AreOfMembers m cat d band sizes pixels = (source t : ℕ) (s : SourceValue) (e : Dataset) →
-    source_at d band source ≡ Some s → member_of cat d.head.name s ≡ Some t → slice_get cat t ≡ Some e
+    source_at d band source ≡ Some s → member_in cat d.head.name s ≡ Some t → slice_get cat t ≡ Some e
     → (sizes s ≡ e.head.size) × ((x y : ℕ) → pixels s x y ≡ pixel_of m cat t (s.band - 1) x y)

@@ -31,12 +31,12 @@ number_from at [] name = None
 number_from at (d ∷ ds) name = if bytes_eq d.head.name name then Some at else number_from (suc at) ds name
 
 -- the number of the dataset of a name
-abbrev pub number_of : List Dataset → List ℕ → Option ℕ
-number_of cat name = number_from 0 cat name
+abbrev pub dataset_number_in : List Dataset → List ℕ → Option ℕ
+dataset_number_in cat name = number_from 0 cat name
 
 -- the dataset of a name
 abbrev pub dataset_named : List Dataset → List ℕ → Option Dataset
-dataset_named cat name = option_and_then (slice_get cat) (number_of cat name)
+dataset_named cat name = option_and_then (slice_get cat) (dataset_number_in cat name)
 
 -- the sources of a content, in document order
 abbrev pub sources_in : Content → List SourceValue
@@ -176,7 +176,7 @@ visit_step below m verify room path met name = do
   kind ← kind_in name
   free ← unless_on path name
   shallow ← room_for room kind name
-  met_or_first below m verify room kind path met name (number_of met.datasets name)
+  met_or_first below m verify room kind path met name (dataset_number_in met.datasets name)
 
 -- The walk's visit of a name, where `path` has the mosaics that lead to it, the last one first, and so many more may
 -- come onto it: the first refusal, or what was met then. It takes every path.
@@ -186,13 +186,13 @@ visit m verify (suc room) path met name =
     visit_step (λ p a n. visit m verify room p a n) m verify (suc room) path met name
 
 -- what a walk has met before it starts
-abbrev pub met_in : List Dataset → Met
-met_in cat = record { datasets = cat; sources = sources_among cat }
+abbrev pub met_at_first : List Dataset → Met
+met_at_first cat = record { datasets = cat; sources = sources_among cat }
 
 -- The walk from a name, where the datasets of a catalog were met earlier: the first refusal, or the datasets in the
 -- order in which they are first met.
 unfoldable pub walked : Files → Bool → List Dataset → List ℕ → Result (List Dataset) WalkFault
-walked m verify cat name = visit m verify most_nestings [] (met_in cat) name >>= λ met. Ok met.datasets
+walked m verify cat name = visit m verify most_nestings [] (met_at_first cat) name >>= λ met. Ok met.datasets
 
 -- a dataset's name is of its kind, and its head is what its content says
 pub record IsDataset (d : Dataset) : Type 0 where
@@ -203,7 +203,7 @@ pub record IsDataset (d : Dataset) : Type 0 where
 
 -- each dataset is found under its name
 abbrev pub IsApart : List Dataset → Type 0
-IsApart cat = (id : ℕ) (d : Dataset) → slice_get cat id ≡ Some d → number_of cat d.head.name ≡ Some id
+IsApart cat = (id : ℕ) (d : Dataset) → slice_get cat id ≡ Some d → dataset_number_in cat d.head.name ≡ Some id
 
 -- a source names a dataset of the catalog, which has its band, with samples that it takes, and is one of those that are
 -- asked for

@@ -19,9 +19,11 @@ use Rattle.catalog.specs.Drivers.{Dataset}
 use Rattle.catalog.specs.Mosaics.{sources_of}
 use Rattle.catalog.specs.Outcomes.{IsOutside, IsMemory}
 use Rattle.catalog.specs.Heads.{kind_in, resolved, IsOwnFault, OwnsFaults}
-use Rattle.catalog.specs.Walk.{number_of, one_more_source, visit, visit_sources, IsWalked, TellsKinds, WalksUnknown}
+use Rattle.catalog.specs.Walk.{dataset_number_in, one_more_source, visit, visit_sources, IsWalked, TellsKinds}
+use Rattle.catalog.specs.Walk.{WalksUnknown}
 use Rattle.catalog.specs.Readings.{calls_to_open_all}
-use Rattle.catalog.specs.Linked.{State, met_of, most, IsLinked, IsMember, Each, AreRows, IsPath, IsLow, Grows, Goes}
+use Rattle.catalog.specs.Linked.{State, met_of, most, IsLinked, IsMember, Each, AreMemberRows, IsPath, IsLow, Grows}
+use Rattle.catalog.specs.Linked.{Goes}
 use Rattle.catalog.specs.Linked.{pushed, one_counted, HasSource, height_at}
 
 -- what a folder tells, and how often it was written, was read and has failed
@@ -79,9 +81,9 @@ pub record Visits (verify : Bool) (room : ℕ) (name : List ℕ) (before after :
   pub told : (m : Files) → before.names ≡ Some m → (path : List (List ℕ)) → IsPath old path →
       Gives IsOutside (λ id. met_of new) result (visit m verify room path (met_of old) name)
   pub reads : OnOk result (ReadsOnce verify before after old new)
-  pub number : IfOk result (λ id. number_of new.datasets name ≡ Some id)
+  pub number : IfOk result (λ id. dataset_number_in new.datasets name ≡ Some id)
   pub low : IfOk result (λ id. IsLow new id room)
-  pub again : IsTrue (is_some (number_of old.datasets name)) → IsFree before after
+  pub again : IsTrue (is_some (dataset_number_in old.datasets name)) → IsFree before after
   pub unknown : WalksUnknown name result
 
 -- A mosaic was met for the first time, and stands open at the end of what was met: the visit of its name is the walk
@@ -96,7 +98,7 @@ pub record IsOpened (verify : Bool) (room : ℕ) (name : List ℕ) (before after
     pub some : 0 < room
     pub first : IsLinked old
     pub linked : IsLinked new
-    pub fresh : number_of old.datasets name ≡ None
+    pub fresh : dataset_number_in old.datasets name ≡ None
     pub is_pushed : new ≡ pushed old dataset None
     pub number : id ≡ length old.datasets
     pub read : (m : Files) → before.names ≡ Some m → IsWalked m old.datasets → IsWalked m new.datasets
@@ -109,10 +111,10 @@ pub record IsOpened (verify : Bool) (room : ℕ) (name : List ℕ) (before after
     pub reads : ReadsOnce verify before after old new
 
 -- how a visit of a name begins
-abbrev pub Meets : Bool → ℕ → List ℕ → Seen → Seen → State → State → Result Meeting WalkFault → Type 0
-Meets verify room name before after old new (Ok (Whole id)) = Visits verify room name before after old new (Ok id)
-Meets verify room name before after old new (Ok (Open id)) = IsOpened verify room name before after old new id
-Meets verify room name before after old new (Err fault) = Visits verify room name before after old new (Err fault)
+abbrev pub MeetsName : Bool → ℕ → List ℕ → Seen → Seen → State → State → Result Meeting WalkFault → Type 0
+MeetsName verify room name before after old new (Ok (Whole id)) = Visits verify room name before after old new (Ok id)
+MeetsName verify room name before after old new (Ok (Open id)) = IsOpened verify room name before after old new id
+MeetsName verify room name before after old new (Err fault) = Visits verify room name before after old new (Err fault)
 
 -- the datasets that sources name were met whole, and aren't higher than this
 pub record Reaches (st : State) (room : ℕ) (base : List ℕ) (ss : List SourceValue) (row : List ℕ) : Type 0 where
@@ -122,7 +124,7 @@ pub record Reaches (st : State) (room : ℕ) (base : List ℕ) (ss : List Source
 -- and so are those that the sources of all bands name
 pub record ReachesRows (st : State) (room : ℕ) (base : List ℕ) (bands : List BandValue) (rows : List (List ℕ)) : Type 0
   where
-    pub members : AreRows st base bands rows
+    pub members : AreMemberRows st base bands rows
     pub low : most st.links (flattened rows) ≤ room
 
 -- the walk went through the sources of a band before one of them

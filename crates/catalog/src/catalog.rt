@@ -11,7 +11,7 @@ ghost use Rattle.catalog.specs.Heads.{OwnsFaults};
 ghost use Rattle.catalog.specs.Drivers.{Dataset as Known};
 ghost use Rattle.catalog.specs.Links.{source_at, member_at, height_of};
 ghost use Rattle.catalog.specs.Readings.{calls_to_open_all};
-ghost use Rattle.catalog.specs.Walk.{number_of, walked, WalksUnknown, IsCatalog, IsWalked};
+ghost use Rattle.catalog.specs.Walk.{dataset_number_in, walked, WalksUnknown, IsCatalog, IsWalked};
 
 use crate::dataset::Dataset;
 use crate::driver::Content;
@@ -157,12 +157,12 @@ pub fn open_all<F: Folder>(
 ) -> Result<u32, WalkFault>
     ensures told { (m : Files) → F.names folder.old ≡ Some m → Gives IsOutside (λ id. cat.new) result
         (walked m verify cat.old name.now) }
-    ensures number { IfOk result (λ id. number_of cat.new name.now ≡ Some id) }
+    ensures number { IfOk result (λ id. dataset_number_in cat.new name.now ≡ Some id) }
     ensures refused { OnErr result (cat.new ≡ cat.old) }
     ensures kept { (more : List Known) × (cat.new ≡ cat.old ++ more) }
     ensures valid { IsCatalog cat.new }
     ensures walked { (m : Files) → F.names folder.old ≡ Some m → IsWalked m cat.old → IsWalked m cat.new }
-    ensures again { IsTrue (is_some (number_of cat.old name.now)) →
+    ensures again { IsTrue (is_some (dataset_number_in cat.old name.now)) →
         (F.read_calls folder.new ≡ F.read_calls folder.old) × (F.faults folder.new ≡ F.faults folder.old) }
     ensures reads { OnOk result ((more : List Known) → cat.new ≡ cat.old ++ more →
         F.read_calls folder.new ≤ F.read_calls folder.old + calls_to_open_all verify more) }

@@ -6,9 +6,10 @@ ghost use Rattle.outside.specs.Outside.{Files, IsLong};
 ghost use Rattle.outside.specs.Causes.{HasCause, FailsWith};
 ghost use Rattle.dted_records.specs.Places.{needed_of, record_len};
 ghost use Rattle.catalog.specs.Outcomes.{IsOutside};
-ghost use Rattle.catalog.specs.Drivers.{content_kind, Fits};
+ghost use Rattle.catalog.specs.Drivers.{Fits};
+ghost use Rattle.catalog.specs.OwnFiles.{content_kind, IsOfFile};
 ghost use Rattle.catalog.specs.Readings.{calls_to_find};
-ghost use Rattle.catalog.specs.Heads.{broken_in, cell_in, dted_in, records_whole, IsOfFile};
+ghost use Rattle.catalog.specs.Heads.{broken_in, cell_in, dted_in, records_whole};
 
 use crate::driver::{Content, Found};
 use crate::files::{open_file, read_front};

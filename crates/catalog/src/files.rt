@@ -3,7 +3,8 @@ ghost use Rattle.std.specs.Prelude.{◌≡◌, ◌⊎◌, ◌≤◌, ◌+◌, �
 ghost use Rattle.outside.specs.Outside.{Files, IsLong};
 ghost use Rattle.outside.specs.Causes.{HasCause};
 ghost use Rattle.catalog.specs.Outcomes.{IsOutside};
-ghost use Rattle.catalog.specs.Heads.{file_in, IsFile, IsOfFile};
+ghost use Rattle.catalog.specs.Heads.{file_in};
+ghost use Rattle.catalog.specs.OwnFiles.{IsFile, IsOfFile};
 
 use crate::WalkFault;
 use outside::{Failed, Folder, Name, OpenFault};

@@ -11,8 +11,9 @@ ghost use Rattle.catalog.specs.declared.grid.ScanFault.TheVariants as scan_fault
 ghost use Rattle.catalog.specs.declared.faults.Bad.{Bad};
 ghost use Rattle.catalog.specs.Outcomes.{IsOutside};
 ghost use Rattle.catalog.specs.Scanned.{HasFed, IsScanFault};
-ghost use Rattle.catalog.specs.Drivers.{content_kind, Fits};
-ghost use Rattle.catalog.specs.Heads.{grid_in, ascii_in, IsOfFile};
+ghost use Rattle.catalog.specs.Drivers.{Fits};
+ghost use Rattle.catalog.specs.OwnFiles.{content_kind, IsOfFile};
+ghost use Rattle.catalog.specs.Heads.{grid_in, ascii_in};
 ghost use Rattle.catalog.specs.Readings.{piece_len};
 
 use crate::driver::{Content, Found};

@@ -5,8 +5,9 @@ ghost use Rattle.catalog.specs.Outcomes.{IsMemory};
 ghost use Rattle.catalog.specs.Dataset.{IsDatasetHead};
 ghost use Rattle.hgt_tiles.specs.Places.{IsSide};
 ghost use Rattle.catalog.specs.Drivers.{raw_band, raw_dataset_head, dted_band, dted_dataset_head, hgt_band};
-ghost use Rattle.catalog.specs.Drivers.{hgt_dataset_head, tile_place};
-ghost use Rattle.catalog.specs.Drivers.{ascii_band, ascii_dataset_head, head_told, content_head, IsOfKind, IsOfContent};
+ghost use Rattle.catalog.specs.Drivers.{hgt_dataset_head, tile_place, ascii_band, ascii_dataset_head, head_told};
+ghost use Rattle.catalog.specs.Drivers.{content_head, IsOfKind};
+ghost use Rattle.catalog.specs.OwnFiles.{IsOfContent};
 
 use crate::driver::Content;
 use crate::mosaic_head::mosaic_head;

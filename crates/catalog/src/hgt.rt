@@ -6,8 +6,9 @@ ghost use Rattle.outside.specs.Causes.{HasCause};
 ghost use Rattle.outside.specs.Names.{last_part};
 ghost use Rattle.hgt_tiles.specs.Names.{corner_of};
 ghost use Rattle.catalog.specs.Outcomes.{IsOutside};
-ghost use Rattle.catalog.specs.Drivers.{content_kind, Fits};
-ghost use Rattle.catalog.specs.Heads.{hgt_in, IsOfFile};
+ghost use Rattle.catalog.specs.Drivers.{Fits};
+ghost use Rattle.catalog.specs.OwnFiles.{content_kind, IsOfFile};
+ghost use Rattle.catalog.specs.Heads.{hgt_in};
 
 use crate::driver::{Content, Found};
 use crate::files::open_file;

@@ -9,7 +9,7 @@ ghost use Rattle.catalog.specs.Outcomes.{IsMemory};
 ghost use Rattle.catalog.specs.Drivers.{Dataset as Known};
 ghost use Rattle.catalog.specs.Walking.{IsOrdinaryFault};
 ghost use Rattle.catalog.specs.Dataset.{band_count, band_at, most_datasets, most_nestings};
-ghost use Rattle.catalog.specs.Walk.{is_narrow_band, number_of, one_more_source};
+ghost use Rattle.catalog.specs.Walk.{is_narrow_band, dataset_number_in, one_more_source};
 ghost use Rattle.catalog.specs.Linked.{State, IsLinked, IsHigh, IsDeep, Grows, HasBand, IsMosaicAt, pushed, met_whole};
 ghost use Rattle.catalog.specs.Linked.{one_counted, cut_to, height_at, most, first_above};
 
@@ -67,14 +67,14 @@ impl Link {
 impl Model for Met {
     ghost use Rattle.std.specs.Prelude.{◌≡◌, List, ℕ};
     ghost use Rattle.std.specs.BTreeMap.{get_by_text};
-    ghost use Rattle.catalog.specs.Walk.{number_of};
+    ghost use Rattle.catalog.specs.Walk.{dataset_number_in};
     ghost use Rattle.catalog.specs.Linked.{State};
 
     ghost Value = { State };
 
     ghost view = { λ m. record { datasets = m.datasets.items; links = m.links.items; sources = m.sources } };
 
-    ghost invariant = { λ m. (name : List ℕ) → get_by_text m.numbers name ≡ number_of m.datasets.items name };
+    ghost invariant = { λ m. (name : List ℕ) → get_by_text m.numbers name ≡ dataset_number_in m.datasets.items name };
 }
 
 // Keeps the number of a dataset under its name, unless the name has one. Where memory is refused,
@@ -125,7 +125,7 @@ impl Met {
     /// The number of the dataset of a name.
     pub fn number(&self, name: &Name) -> Option<u32>
         requires few { length self.now.datasets ≤ most_datasets }
-        ensures number { result ≡ number_of self.now.datasets name.now }
+        ensures number { result ≡ dataset_number_in self.now.datasets name.now }
     {
         self.numbers.get(name.as_str()).copied()
     }

@@ -4,8 +4,9 @@ ghost use Rattle.lists_and_answers.specs.Answers.{Gives};
 ghost use Rattle.outside.specs.Outside.{Files};
 ghost use Rattle.outside.specs.Causes.{HasCause};
 ghost use Rattle.catalog.specs.Outcomes.{IsOutside, IsMemory};
-ghost use Rattle.catalog.specs.Drivers.{content_kind, Fits};
-ghost use Rattle.catalog.specs.Heads.{file_in, named, vrt_in, IsOfFile};
+ghost use Rattle.catalog.specs.Drivers.{Fits};
+ghost use Rattle.catalog.specs.OwnFiles.{content_kind, IsOfFile};
+ghost use Rattle.catalog.specs.Heads.{file_in, named, vrt_in};
 ghost use Rattle.vrt_profile.specs.Values.{IsDocument, longest_document};
 ghost use Rattle.vrt_profile.specs.Document.{document_of};
 

@@ -5,11 +5,11 @@ ghost use Rattle.outside.specs.Outside.{Files};
 ghost use Rattle.outside.specs.Causes.{HasCause};
 ghost use Rattle.catalog.specs.Outcomes.{IsOutside};
 ghost use Rattle.catalog.specs.Dataset.{IsDatasetHead};
-ghost use Rattle.catalog.specs.Drivers.{content_kind, Fits};
-ghost use Rattle.catalog.specs.Drivers.{Dataset as Known};
+ghost use Rattle.catalog.specs.Drivers.{Fits, Dataset as Known};
+ghost use Rattle.catalog.specs.OwnFiles.{content_kind, IsOfFile};
 ghost use Rattle.catalog.specs.Readings.{calls_to_find, calls_to_open};
-ghost use Rattle.catalog.specs.Heads.{kind_in, found_in, dataset_by, dataset_in, head_in, IsOfFile, IsOfHead};
-ghost use Rattle.catalog.specs.Heads.{RefusesUnknown, OwnsFaults};
+ghost use Rattle.catalog.specs.Heads.{kind_in, found_in, dataset_by, dataset_in, head_in, IsOfHead, RefusesUnknown};
+ghost use Rattle.catalog.specs.Heads.{OwnsFaults};
 ghost use Rattle.catalog.specs.Walk.{IsDataset};
 
 use crate::dataset::Dataset;

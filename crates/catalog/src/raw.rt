@@ -7,8 +7,9 @@ ghost use Rattle.outside.specs.Causes.{HasCause};
 ghost use Rattle.outside.specs.Names.{extension_of, is_raw, header_of};
 ghost use Rattle.interleaved_raw.specs.Raw.{needed_of};
 ghost use Rattle.catalog.specs.Outcomes.{IsMemory, IsOutside};
-ghost use Rattle.catalog.specs.Drivers.{content_kind, Fits};
-ghost use Rattle.catalog.specs.Heads.{file_in, header_in, raw_in, IsOfFile};
+ghost use Rattle.catalog.specs.Drivers.{Fits};
+ghost use Rattle.catalog.specs.OwnFiles.{content_kind, IsOfFile};
+ghost use Rattle.catalog.specs.Heads.{file_in, header_in, raw_in};
 
 use crate::driver::{Content, Found};
 use crate::files::{open_file, read_whole};

@@ -8,11 +8,12 @@ ghost use Rattle.catalog.specs.Dataset.{most_nestings};
 ghost use Rattle.catalog.specs.Mosaics.{sources_of};
 ghost use Rattle.catalog.specs.Heads.{kind_in, resolved};
 ghost use Rattle.catalog.specs.Drivers.{Dataset as Known};
-ghost use Rattle.catalog.specs.Walk.{number_of, dataset_named, band_named, is_narrow_band, room_for, unless_no_band};
+ghost use Rattle.catalog.specs.Walk.{dataset_number_in, dataset_named, band_named, is_narrow_band, room_for};
+ghost use Rattle.catalog.specs.Walk.{unless_no_band};
 ghost use Rattle.catalog.specs.Walk.{unless_no_samples, unless_wide, visit};
 ghost use Rattle.vrt_profile.specs.Value.{is_plain};
 ghost use Rattle.catalog.specs.Linked.{IsLinked, IsPath, IsLow, IsMosaicAt, HasBand, HasSource, met_of};
-ghost use Rattle.catalog.specs.Walking.{IsOrdinaryFault, Meets, Visits, Passes, Names, Reaches, ReachesRows};
+ghost use Rattle.catalog.specs.Walking.{IsOrdinaryFault, MeetsName, Visits, Passes, Names, Reaches, ReachesRows};
 ghost use Rattle.catalog.specs.Walking.{folder_seen};
 ghost use Rattle.catalog.specs.Walking.{IsWalkedUpTo, IsMetLow};
 
@@ -85,7 +86,7 @@ fn resolve_source(alloc: Global, met: &Met, at: SourceAt) -> Result<Wanted, Walk
 
 // The dataset that a source names has the band that it names.
 fn check_band(met: &Met, member: u32, wanted: &Wanted) -> Result<(), WalkFault>
-    requires number { number_of met.now.datasets wanted.now.name ≡ Some member }
+    requires number { dataset_number_in met.now.datasets wanted.now.name ≡ Some member }
     ensures told { Gives IsMemory (λ _. tt) result (unless_no_band met.now.datasets wanted.now.name wanted.now.band) }
     ensures plain { IfErr result IsOrdinaryFault }
 {
@@ -100,7 +101,7 @@ fn check_band(met: &Met, member: u32, wanted: &Wanted) -> Result<(), WalkFault>
 
 // Whether the samples of the band that a source names have at most 32 bits.
 fn names_narrow(met: &Met, member: u32, wanted: &Wanted) -> bool
-    requires number { number_of met.now.datasets wanted.now.name ≡ Some member }
+    requires number { dataset_number_in met.now.datasets wanted.now.name ≡ Some member }
     ensures narrow { result ≡ is_narrow_band (band_named (dataset_named met.now.datasets wanted.now.name)
         wanted.now.band) }
 {
@@ -110,7 +111,7 @@ fn names_narrow(met: &Met, member: u32, wanted: &Wanted) -> bool
 // Whether a source takes the samples of the band that it names: those that it scales, or has a table for, have at
 // most 32 bits.
 fn takes_samples(met: &Met, member: u32, wanted: &Wanted) -> bool
-    requires number { number_of met.now.datasets wanted.now.name ≡ Some member }
+    requires number { dataset_number_in met.now.datasets wanted.now.name ≡ Some member }
     ensures takes { result ≡ (wanted.now.plain || is_narrow_band (band_named
         (dataset_named met.now.datasets wanted.now.name) wanted.now.band)) }
 {
@@ -120,7 +121,7 @@ fn takes_samples(met: &Met, member: u32, wanted: &Wanted) -> bool
 // A mosaic, whose number this is, that doesn't take the samples of what its source names isn't one that is read.
 fn check_width(met: &Met, id: u32, member: u32, wanted: &Wanted) -> Result<(), WalkFault>
     requires known { id < length met.now.datasets }
-    requires number { number_of met.now.datasets wanted.now.name ≡ Some member }
+    requires number { dataset_number_in met.now.datasets wanted.now.name ≡ Some member }
     ensures told { (d : Known) → slice_get met.now.datasets id ≡ Some d →
         Gives IsMemory (λ _. tt) result (unless_wide met.now.datasets d.head.name wanted.now.name wanted.now.band
         wanted.now.plain) }
@@ -138,7 +139,7 @@ fn check_width(met: &Met, id: u32, member: u32, wanted: &Wanted) -> Result<(), W
 // What a source of the mosaic of this number names has the band that it names, with samples that it takes.
 fn check_samples(met: &Met, id: u32, member: u32, wanted: &Wanted) -> Result<(), WalkFault>
     requires known { id < length met.now.datasets }
-    requires number { number_of met.now.datasets wanted.now.name ≡ Some member }
+    requires number { dataset_number_in met.now.datasets wanted.now.name ≡ Some member }
     ensures told { (d : Known) → slice_get met.now.datasets id ≡ Some d →
         Gives IsMemory (λ _. tt) result (unless_no_samples met.now.datasets d.head.name wanted.now.name wanted.now.band
         wanted.now.plain) }
@@ -151,7 +152,7 @@ fn check_samples(met: &Met, id: u32, member: u32, wanted: &Wanted) -> Result<(),
 // The checks of a name that was met earlier, by its height: the datasets below it aren't gone through.
 fn check_again(met: &Met, id: u32, room: u32, name: &Name) -> Result<(), WalkFault>
     requires linked { IsLinked met.now }
-    requires number { number_of met.now.datasets name.now ≡ Some id }
+    requires number { dataset_number_in met.now.datasets name.now ≡ Some id }
     ensures told { (m : Files) (verify : Bool) (path : List (List ℕ)) → IsPath met.now path →
         Gives IsMemory (λ _. met_of met.now) result (visit m verify room path (met_of met.now) name.now) }
     ensures low { OnOk result (IsLow met.now id room) }
@@ -195,8 +196,8 @@ fn meet_first<F: Folder>(
     requires room { room ≤ most_nestings }
     requires kind { kind_in name.now ≡ Ok kind }
     requires shallow { room_for room kind name.now ≡ Ok tt }
-    requires fresh { number_of met.old.datasets name.now ≡ None }
-    ensures meets { Meets verify room name.now (folder_seen (F.names folder.old) (F.write_calls folder.old)
+    requires fresh { dataset_number_in met.old.datasets name.now ≡ None }
+    ensures meets { MeetsName verify room name.now (folder_seen (F.names folder.old) (F.write_calls folder.old)
         (F.read_calls folder.old) (F.faults folder.old)) (folder_seen (F.names folder.new) (F.write_calls folder.new)
         (F.read_calls folder.new) (F.faults folder.new)) met.old met.new result }
 {
@@ -226,7 +227,7 @@ fn meet<F: Folder>(
 ) -> Result<Meeting, WalkFault>
     requires linked { IsLinked met.old }
     requires room { room ≤ most_nestings }
-    ensures meets { Meets verify room name.now (folder_seen (F.names folder.old) (F.write_calls folder.old)
+    ensures meets { MeetsName verify room name.now (folder_seen (F.names folder.old) (F.write_calls folder.old)
         (F.read_calls folder.old) (F.faults folder.old)) (folder_seen (F.names folder.new) (F.write_calls folder.new)
         (F.read_calls folder.new) (F.faults folder.new)) met.old met.new result }
 {

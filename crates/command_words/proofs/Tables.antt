@@ -2,7 +2,8 @@
 use Rattle.std.proofs.Common.{◌≡◌, ◌∙◌, ◌<◌, ◌+◌, ap, sym, cond, ℕ, true, false, List, length, map, drop, get_or, Some, bytes_eq, Bor}
 use Rattle.std.proofs.lemmas.List.{at_drop_more}
 use Rattle.command_words.specs.declared.options.OptionWord.{OptionWord}
-use Rattle.command_words.specs.Options.{named, option_in}
+use Rattle.command_words.specs.Options.{option_in}
+use Rattle.command_words.specs.Gathered.{named}
 
 pub row_passed : (rows : List (Bor (List ℕ) × OptionWord)) (word : List ℕ) (i : ℕ) (d : Bor (List ℕ) × OptionWord) → i < length rows → bytes_eq word (get_or rows i d).0.now ≡ false → option_in (map named (drop (i + 1) rows)) word ≡ option_in (map named (drop i rows)) word
 row_passed rows word i d below other =

@@ -12,7 +12,8 @@ use Rattle.command_words.specs.declared.spoken.WordPlace.{WordPlace}
 use Rattle.command_words.specs.declared.spoken.WordFault.{WordFault}
 use Rattle.command_words.specs.Options.{option_of, value_count}
 use Rattle.command_words.specs.Said.{option_said}
-use Rattle.command_words.specs.Uses.{Use, uses_from, taken_by, said_by, behind_use, judged, with_said, spoken_of, spoken_in}
+use Rattle.command_words.specs.Uses.{Use, uses_from, values_behind, said_by, behind_use, judged, spoken_of, spoken_in}
+use Rattle.command_words.specs.Gathered.{with_said}
 use Rattle.command_words.specs.Words.{IsMemory}
 
 -- one use more
@@ -53,13 +54,13 @@ spoken_more at (said.Tile n) uses = refl
 
 -- the use that a word begins
 abbrev pub use_at : Tool → ℕ → List ℕ → List (List ℕ) → Use
-use_at tool at word behind = record { at = at; word = word; option = option_of tool word; values = take (taken_by (option_of tool word)) behind }
+use_at tool at word behind = record { at = at; word = word; option = option_of tool word; values = take (values_behind (option_of tool word)) behind }
 
 -- an option, and its values among the words behind it
 pub option_used : (tool : Tool) (place : WordPlace) (before : ℕ) (word : List ℕ) (behind values : List (List ℕ)) (o : OptionWord) (r : Result Said WordFault) → option_of tool word ≡ Some o → values ≡ take (value_count o) behind → Gives IsMemory (λ s. s) r (option_said o place values) → Gives IsMemory (λ s. s) r (said_by (option_of tool word) tool place.count before (use_at tool place.at word behind))
 option_used tool place before word behind values o r named few is =
     let told : Gives IsMemory (λ s. s) r (option_said o place (take (value_count o) behind)) = subst (λ (vs : List (List ℕ)). Gives IsMemory (λ s. s) r (option_said o place vs)) few is in
-    subst (λ (p : Option OptionWord). Gives IsMemory (λ s. s) r (said_by p tool place.count before (record { at = place.at; word = word; option = p; values = take (taken_by p) behind }))) (sym named) told
+    subst (λ (p : Option OptionWord). Gives IsMemory (λ s. s) r (said_by p tool place.count before (record { at = place.at; word = word; option = p; values = take (values_behind p) behind }))) (sym named) told
 
 -- the word in a place of a list stands before those behind it
 pub next_word : {X : Type 0} (f : X → List ℕ) (words : List X) (i : ℕ) (word d : X) → i < length words → word ≡ get_or words i d → map f (drop i words) ≡ f word ∷ map f (drop (i + 1) words)
@@ -83,10 +84,10 @@ module _ (tool : Tool) (count before at : ℕ) (all : Spoken) (word : List ℕ) 
   this = use_at tool at word left
 
   abbrev rest : Result Said WordFault → List (ℕ × Said) → Result (List (ℕ × Said)) WordFault
-  rest r uses = r >>= (λ s. judged tool count (behind_use before (option_of tool word)) ((at, s) ∷ uses) (uses_from tool (at + 1) (taken_by (option_of tool word)) left))
+  rest r uses = r >>= (λ s. judged tool count (behind_use before (option_of tool word)) ((at, s) ∷ uses) (uses_from tool (at + 1) (values_behind (option_of tool word)) left))
 
   -- a use that fits
-  pub told_more : (s : Said) (next : Spoken) → Told tool count before zero at all (word ∷ left) words → said_by (option_of tool word) tool count before this ≡ Ok s → next ≡ with_said at s all → Told tool count (behind_use before (option_of tool word)) (taken_by (option_of tool word)) (at + 1) next left words
+  pub told_more : (s : Said) (next : Spoken) → Told tool count before zero at all (word ∷ left) words → said_by (option_of tool word) tool count before this ≡ Ok s → next ≡ with_said at s all → Told tool count (behind_use before (option_of tool word)) (values_behind (option_of tool word)) (at + 1) next left words
   told_more s next t is more = record {
     uses = (at, s) ∷ t.uses;
     said_is = more ∙ ap (with_said at s) t.said_is ∙ spoken_more at s t.uses;
@@ -123,11 +124,11 @@ module _ (tool : Tool) (count at : ℕ) (all : Spoken) (word : List ℕ) (here l
   first : (before taken : ℕ) → Told tool count before taken at all here words → taken ≡ 0 → Told tool count before 0 at all (word ∷ left) words
   first before taken t none = subst (λ (k : ℕ). Told tool count before k at all (word ∷ left) words) none (subst (λ (ls : List (List ℕ)). Told tool count before taken at all ls words) next t)
 
-  pub use_step : (before before_now taken taken_now : ℕ) (all_now : Spoken) (read : List ℕ) (behind : List (List ℕ)) (s : Said) (o : Option OptionWord) → Told tool count before taken at all here words → taken ≡ 0 → read ≡ word → behind ≡ left → said_at before read behind ≡ Ok s → all_now ≡ with_said at s all → o ≡ option_of tool word → before_now ≡ behind_use before o → taken_now ≡ taken_by o → Told tool count before_now taken_now (at + 1) all_now left words
+  pub use_step : (before before_now taken taken_now : ℕ) (all_now : Spoken) (read : List ℕ) (behind : List (List ℕ)) (s : Said) (o : Option OptionWord) → Told tool count before taken at all here words → taken ≡ 0 → read ≡ word → behind ≡ left → said_at before read behind ≡ Ok s → all_now ≡ with_said at s all → o ≡ option_of tool word → before_now ≡ behind_use before o → taken_now ≡ values_behind o → Told tool count before_now taken_now (at + 1) all_now left words
   use_step before before_now taken taken_now all_now read behind s o t none read_is behind_is fits more named before_is taken_is =
       let is = as_read before read behind (Ok s) read_is behind_is fits in
       let to = told_more tool count before at all word left words s all_now (first before taken t none) is more in
-      subst (λ (b : ℕ). Told tool count b taken_now (at + 1) all_now left words) (sym (before_is ∙ ap (behind_use before) named)) (subst (λ (k : ℕ). Told tool count (behind_use before (option_of tool word)) k (at + 1) all_now left words) (sym (taken_is ∙ ap taken_by named)) to)
+      subst (λ (b : ℕ). Told tool count b taken_now (at + 1) all_now left words) (sym (before_is ∙ ap (behind_use before) named)) (subst (λ (k : ℕ). Told tool count (behind_use before (option_of tool word)) k (at + 1) all_now left words) (sym (taken_is ∙ ap values_behind named)) to)
 
   pub use_refused : (before taken : ℕ) (read : List ℕ) (behind : List (List ℕ)) (f : WordFault) → Told tool count before taken at all here words → taken ≡ 0 → read ≡ word → behind ≡ left → said_at before read behind ≡ Err f → spoken_in tool count words ≡ Err f
   use_refused before taken read behind f t none read_is behind_is fails =

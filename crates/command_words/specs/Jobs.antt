@@ -35,11 +35,11 @@ use Rattle.command_words.specs.declared.spoken.WordFault.{WordFault}
 use Rattle.command_words.specs.declared.spoken.WordFault.TheVariants.{Usage}
 
 -- the two numbers of a point, or neither; one alone lacks the other
-abbrev pub point_of : Option ℤ → Option ℤ → Option (Option (ℤ × ℤ))
-point_of None None = Some None
-point_of None (Some y) = None
-point_of (Some x) None = None
-point_of (Some x) (Some y) = Some (Some (x, y))
+abbrev pub asked_point : Option ℤ → Option ℤ → Option (Option (ℤ × ℤ))
+asked_point None None = Some None
+asked_point None (Some y) = None
+asked_point (Some x) None = None
+asked_point (Some x) (Some y) = Some (Some (x, y))
 
 -- the form that is asked for; two forms don't go together, and the one that stands later is refused
 abbrev pub form_of : Option ℕ → Option ℕ → Result Form WordFault
@@ -110,7 +110,7 @@ info_job count s = do
 unfoldable pub locate_job : ℕ → Spoken → Result Job WordFault
 locate_job count s = do
   name ← ok_or s.source (Usage count)
-  point ← ok_or (point_of s.x s.y) (Usage count)
+  point ← ok_or (asked_point s.x s.y) (Usage count)
   form ← form_of s.values_only s.files_only
   Ok (job.Locate name point s.bands form s.geoloc)
 

@@ -5,3 +5,5 @@ pub mod Said
 pub mod Uses
 pub mod Words
 pub mod Jobs
+-- What private clauses, views and proofs speak of.
+pub mod Gathered

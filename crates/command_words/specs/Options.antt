@@ -1,6 +1,5 @@
 -- The commands and their options.
 use Rattle.std.specs.Prelude.{ℕ, List, [], ◌∷◌, codes, bytes_eq, Option, Some, None, if◌then◌else◌}
-use denote.Ref.{Bor}
 use Rattle.command_words.specs.declared.options.Tool.{Tool}
 use Rattle.command_words.specs.declared.options.Tool.TheVariants.{Info, Locate, Translate, Build, Synth}
 use Rattle.command_words.specs.declared.options.OptionWord.{OptionWord}
@@ -57,10 +56,6 @@ build_options = (codes "-b", option.Band)
     ∷ (codes "-overwrite", option.Overwrite)
     ∷ (codes "-input_file_list", option.InputList)
     ∷ []
-
--- a row of a table as the code has it
-abbrev pub named : Bor (List ℕ) × OptionWord → List ℕ × OptionWord
-named o = (o.0.now, o.1)
 
 -- the option that a table has for a word
 abbrev pub option_in : List (List ℕ × OptionWord) → List ℕ → Option OptionWord

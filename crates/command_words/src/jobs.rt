@@ -4,7 +4,7 @@ ghost use Rattle.lists_and_answers.specs.Answers.{Gives};
 ghost use Rattle.translate_plan.specs.Options.{IsDriver, IsView, IsOutSize};
 ghost use Rattle.buildvrt.specs.Options.{IsResolution, IsExtent};
 ghost use Rattle.catalog.specs.Nodata.{IsNodataWord};
-ghost use Rattle.command_words.specs.Jobs.{point_of, form_of, format_for, layout_for, written_as, is_same_format};
+ghost use Rattle.command_words.specs.Jobs.{asked_point, form_of, format_for, layout_for, written_as, is_same_format};
 ghost use Rattle.command_words.specs.Jobs.{of_format, written_of, view_of, layout_in, asked_of, info_job, locate_job};
 ghost use Rattle.command_words.specs.Jobs.{translate_job, inputs_of, separate_of, named_resolution, given_resolution};
 ghost use Rattle.command_words.specs.Jobs.{resolution_of, asked_mosaic, build_job, synth_job, job_of};
@@ -35,7 +35,7 @@ pub struct Written {
 }
 
 fn point_of(x: Option<Position>, y: Option<Position>) -> Option<Option<(Position, Position)>>
-    ensures { result ≡ point_of x y }
+    ensures { result ≡ asked_point x y }
 {
     match (x, y) {
         (None, None) => Some(None),

@@ -1,7 +1,8 @@
 // The commands and their options.
 ghost use Rattle.std.specs.Prelude.{◌≡◌, ◌≤◌, map};
-ghost use Rattle.command_words.specs.Options.{tool_of, named, shared_option_of, own_option_of, option_of, option_in};
+ghost use Rattle.command_words.specs.Options.{tool_of, shared_option_of, own_option_of, option_of, option_in};
 ghost use Rattle.command_words.specs.Options.{value_count};
+ghost use Rattle.command_words.specs.Gathered.{named};
 
 /// The command that the first word names.
 #[derive(Clone, Copy, PartialEq, Eq)]

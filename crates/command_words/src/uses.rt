@@ -4,9 +4,10 @@ ghost use Rattle.std.specs.Prelude.{Ok};
 ghost use Rattle.lists_and_answers.specs.Answers.{Gives};
 ghost use Rattle.command_words.specs.Options.{option_of};
 ghost use Rattle.command_words.specs.Uses.{may_be_negative, is_positional, source_said, output_said, input_said};
-ghost use Rattle.command_words.specs.Uses.{x_said, y_said, tile_said, positional_of, placed_said, said_by, taken_by};
-ghost use Rattle.command_words.specs.Uses.{behind_use, with_mosaic, with_said, wanted_of, mosaic_of, spoken_of};
-ghost use Rattle.command_words.specs.Uses.{spoken_in};
+ghost use Rattle.command_words.specs.Uses.{x_said, y_said, tile_said, positional_of, placed_said, said_by};
+ghost use Rattle.command_words.specs.Uses.{values_behind};
+ghost use Rattle.command_words.specs.Uses.{behind_use, wanted_of, mosaic_of, spoken_of, spoken_in};
+ghost use Rattle.command_words.specs.Gathered.{with_mosaic, with_said};
 ghost use Rattle.command_words.specs.Words.{IsMemory};
 ghost use Rattle.command_words.specs.declared.spoken.Said.TheVariants as said;
 
@@ -271,7 +272,7 @@ fn nothing_said(alloc: Global) -> Spoken
 
 // How many words behind a word are its values.
 fn taken_by(option: Option<OptionWord>) -> usize
-    ensures value { result ≡ taken_by option }
+    ensures value { result ≡ values_behind option }
     ensures kept { result ≤ 4 }
 {
     match option {
@@ -316,7 +317,7 @@ fn use_said(
           word = word.now;
           option = option_of tool word.now;
           values = take
-              (taken_by (option_of tool word.now)) (map string_bytes behind.now);
+              (values_behind (option_of tool word.now)) (map string_bytes behind.now);
         })) }
 {
     match option_of(tool, word) {

@@ -11,7 +11,7 @@ use Rattle.geotransform.specs.declared.types.Size.{Size}
 use Rattle.geotransform.proofs.Centres.{bind_is, bind_made, between_is, between_made, near_is, up_is, up_made}
 use Rattle.dted_records.specs.Head.{Head}
 use Rattle.dted_records.specs.Places.{spacing}
-use Rattle.dted_records.specs.Fit.{points_of, step_of, edge_of, factor_at, lines_of, holds, cell_head, cell_of, IsCell, IsFitted}
+use Rattle.dted_records.specs.Fit.{points_of, step_of, edge_of, factor_at, cell_lines, holds, cell_head, cell_of, IsCell, IsFitted}
 
 holds_is : (b : Bool) (u : Unit {0}) → holds b ≡ Some u → b ≡ true
 holds_is true u h = refl
@@ -47,7 +47,7 @@ cell_is level size g h found =
     let up = bind_is (holds (is_north_up g)) _ h found in
     let points = bind_is (holds (size.h == points_of level)) _ h up.rest in
     let factor = bind_is (factor_at (edge_of (degree_near (twice_south g size.h)))) _ h points.rest in
-    let lines = bind_is (holds (size.w == lines_of level factor.value)) _ h factor.rest in
+    let lines = bind_is (holds (size.w == cell_lines level factor.value)) _ h factor.rest in
     let lat = bind_is (lat_of (spacing (step_of level)) size.h g) _ h lines.rest in
     let lon = bind_is (lon_of (spacing (step_of level * factor.value)) size.w g) _ h lat.rest in
     let north_up = up_is g (holds_is (is_north_up g) up.value up.found) in
@@ -62,7 +62,7 @@ cell_is level size g h found =
         southward = north_up.1;
         points = same_is size.h (points_of level) (holds_is (size.h == points_of level) points.value points.found);
         zone = ap (λ d. factor_at (edge_of d)) (sym (near_is (spacing (step_of level)) (twice_south g size.h) lat.value (small_lat level) y.here)) ∙ factor.found;
-        lines = same_is size.w (lines_of level factor.value) (holds_is (size.w == lines_of level factor.value) lines.value lines.found);
+        lines = same_is size.w (cell_lines level factor.value) (holds_is (size.w == cell_lines level factor.value) lines.value lines.found);
         west = x.here;
         east = x.next;
         south = y.here;
@@ -86,7 +86,7 @@ cell_made level size g factor lat lon t =
     bind_made (holds (is_north_up g)) _ tt (Some h) (ap holds (up_made g t.eastward t.southward))
     (bind_made (holds (size.h == points_of level)) _ tt (Some h) (same_made size.h (points_of level) t.points)
     (bind_made (factor_at (edge_of (degree_near (twice_south g size.h)))) _ factor (Some h) (ap (λ d. factor_at (edge_of d)) (near_is (spacing (step_of level)) (twice_south g size.h) lat (small_lat level) t.south) ∙ t.zone)
-    (bind_made (holds (size.w == lines_of level factor)) _ tt (Some h) (same_made size.w (lines_of level factor) t.lines)
+    (bind_made (holds (size.w == cell_lines level factor)) _ tt (Some h) (same_made size.w (cell_lines level factor) t.lines)
     (bind_made (lat_of (spacing (step_of level)) size.h g) _ lat (Some h) (between_made (spacing (step_of level)) 90 _ _ lat (small_lat level) (record { least = omega (arith, ints, t.lat_least); most = omega (arith, ints, t.lat_most); here = t.south; next = t.north }))
     (bind_made (lon_of (spacing (step_of level * factor)) size.w g) _ lon (Some h) (between_made (spacing (step_of level * factor)) 180 _ _ lon (small_lon level factor few) (record { least = omega (arith, ints, t.lon_least); most = omega (arith, ints, t.lon_most); here = t.west; next = t.east }))
     refl)))))

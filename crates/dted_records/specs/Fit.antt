@@ -28,8 +28,8 @@ factor_at e = if nat_lt e 50 then Some 1 else (if nat_lt e 70 then Some 2
     else (if nat_lt e 75 then Some 3 else (if nat_lt e 80 then Some 4 else (if nat_lt e 90 then Some 6 else None))))
 
 -- the lines of longitude of a cell of a level, both ends of a degree included
-abbrev pub lines_of : ℕ → ℕ → ℕ
-lines_of level factor = (points_of level - 1) / factor + 1
+abbrev pub cell_lines : ℕ → ℕ → ℕ
+cell_lines level factor = (points_of level - 1) / factor + 1
 
 -- an answer where something holds, and none where it doesn't
 abbrev pub holds : Bool → Option (Unit {0})
@@ -43,7 +43,7 @@ cell_head level factor lat lon = record {
   lat = lat *ℤ pos 3600;
   lon_step = step_of level * factor;
   lat_step = step_of level;
-  lines = lines_of level factor;
+  lines = cell_lines level factor;
   points = points_of level;
 }
 
@@ -53,7 +53,7 @@ cell_of level size g = do
   up ← holds (is_north_up g)
   points ← holds (size.h == points_of level)
   factor ← factor_at (edge_of (degree_near (twice_south g size.h)))
-  lines ← holds (size.w == lines_of level factor)
+  lines ← holds (size.w == cell_lines level factor)
   lat ← lat_of (spacing (step_of level)) size.h g
   lon ← lon_of (spacing (step_of level * factor)) size.w g
   Some (cell_head level factor lat lon)
@@ -76,7 +76,7 @@ pub record IsCell (level : ℕ) (size : Size) (g : Transform) (factor : ℕ) (la
   pub southward : g.dy <ℤ pos 0
   pub points : size.h ≡ points_of level
   pub zone : factor_at (edge_of lat) ≡ Some factor
-  pub lines : size.w ≡ lines_of level factor
+  pub lines : size.w ≡ cell_lines level factor
   pub west : IsAtDegree (spacing (step_of level * factor)) (twice_west g) lon
   pub east : IsAtDegree (spacing (step_of level * factor)) (twice_east g size.w) (lon +ℤ pos 1)
   pub south : IsAtDegree (spacing (step_of level)) (twice_south g size.h) lat

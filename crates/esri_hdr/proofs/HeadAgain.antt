@@ -18,9 +18,9 @@ use Rattle.esri_hdr.specs.declared.header_parts.RawGeo.{RawGeo}
 use Rattle.esri_hdr.specs.declared.header_parts.Shape.{Shape}
 use Rattle.esri_hdr.specs.declared.header_parts.Rows.{Rows}
 use Rattle.esri_hdr.specs.Keys as keys
-use Rattle.esri_hdr.specs.Lines.{Values, last_of}
+use Rattle.esri_hdr.specs.Lines.{Values, last_in_text}
 use Rattle.lists_and_answers.specs.Answers.{◌>>=◌}
-use Rattle.esri_hdr.specs.Head.{place_in, step_in, is_half_near, geo_in, nodata_in, shape_of, row_len, rows_of, geo_of, Head, head_of, esri_head, sample_len, GeoFits, IsHead, RowsFit}
+use Rattle.esri_hdr.specs.Head.{place_in, step_in, is_half_near, geo_in, nodata_in, shape_of, row_len, row_keys_of, geo_of, Head, head_of, esri_head, sample_len, GeoFits, IsHead, RowsFit}
 use Rattle.esri_hdr.specs.Text.{order_text, layout_text, sign_text, nodata_fields, geo_fields, fields_of, fields_from, hdr_text}
 use Rattle.esri_hdr.proofs.Again.{IsKey, IsField, last_field, last_text, text_len, key_const, field_const, field_word}
 use Rattle.std.specs.List.{AllByRecursion}
@@ -78,8 +78,8 @@ shape_again h none geo value w is = rw (w.nrows, w.ncols, side_again h.size.h is
 row_is : (h : Head) → h.size.w * sample_len h.kind ≡ row_len (shape_from h)
 row_is h = ap (λ k. h.size.w * k) (sym (mul-div_cancel_left (sample_len h.kind) (omega arith)))
 
-rows_again : (h : Head) (none : Option ℤ) (geo : Option RawGeo) (value : Values) → Written value h none geo → IsHead h → rows_of (shape_from h) value ≡ Ok (rows_from h)
-unfolding rows_of
+rows_again : (h : Head) (none : Option ℤ) (geo : Option RawGeo) (value : Values) → Written value h none geo → IsHead h → row_keys_of (shape_from h) value ≡ Ok (rows_from h)
+unfolding row_keys_of
 rows_again h none geo value w is =
     let fits = subst (λ (k : ℕ). RowsFit h.layout h.bands k (rows_from h)) (row_is h) is.rows in
     rw (w.bandrowbytes, band_row_again h.layout (row_len (shape_from h)) h.band_row fits.0, w.totalrowbytes, total_row_again h.layout h.bands (row_len (shape_from h)) h.band_row h.total_row fits.1, w.bandgapbytes, gap_again h.layout h.gap fits.2) refl
@@ -210,5 +210,5 @@ pub hdr_again : (h : Head) → IsHead h → esri_head (hdr_text h) ≡ Ok h
 unfolding esri_head hdr_text
 hdr_again h is =
     let short : nat_lt 1048576 (length (hdr_text h)) ≡ false = not_above (length (hdr_text h)) (text_short h is) in
-    let values : (λ key. last_field key (fields_of h)) ≡ last_of (hdr_text h) = fun_ext (λ key. sym (last_text (fields_of h) (fields_all h is) key)) in
-    ap (λ b. cond b (Err Limit) (head_of (last_of (hdr_text h)))) short ∙ sym (ap head_of values) ∙ head_again h (λ key. last_field key (fields_of h)) (written h h.nodata h.geo) is
+    let values : (λ key. last_field key (fields_of h)) ≡ last_in_text (hdr_text h) = fun_ext (λ key. sym (last_text (fields_of h) (fields_all h is) key)) in
+    ap (λ b. cond b (Err Limit) (head_of (last_in_text (hdr_text h)))) short ∙ sym (ap head_of values) ∙ head_again h (λ key. last_field key (fields_of h)) (written h h.nodata h.geo) is

@@ -3,20 +3,21 @@ use Rattle.std.proofs.Common.{◌≡◌, ℕ, ◌-◌, List, [], ◌∷◌, ◌+
 use Rattle.std.specs.Prelude.{OnErr}
 use Rattle.lists_and_answers.specs.Growth.{KeepsFront}
 use Rattle.geotransform.proofs.Written.{keeps_append, keeps_then}
-use Rattle.esri_hdr.specs.Text.{name_of, content_of, text_of, AppendsLines}
+use Rattle.esri_hdr.specs.Text.{name_of, content_of, lines_text_of}
+use Rattle.esri_hdr.specs.Steps.{AppendsLines}
 
-text-append : (fs gs : List (ℕ × List ℕ)) → text_of (fs ++ gs) ≡ text_of fs ++ text_of gs
+text-append : (fs gs : List (ℕ × List ℕ)) → lines_text_of (fs ++ gs) ≡ lines_text_of fs ++ lines_text_of gs
 text-append [] gs = refl
-text-append (f ∷ fs) gs = ap (λ (x : List ℕ). content_of f.0 f.1 ++ 10 ∷ x) (text-append fs gs) ∙ sym (append_assoc (content_of f.0 f.1) (10 ∷ text_of fs) (text_of gs))
+text-append (f ∷ fs) gs = ap (λ (x : List ℕ). content_of f.0 f.1 ++ 10 ∷ x) (text-append fs gs) ∙ sym (append_assoc (content_of f.0 f.1) (10 ∷ lines_text_of fs) (lines_text_of gs))
 
 pub lines_then : (a b c : List ℕ) (fs gs : List (ℕ × List ℕ)) → AppendsLines a b fs → AppendsLines b c gs → AppendsLines a c (fs ++ gs)
-lines_then a b c fs gs p q = record { lines = q.lines ∙ ap (λ (x : List ℕ). x ++ text_of gs) p.lines ∙ append_assoc a (text_of fs) (text_of gs) ∙ ap (λ (x : List ℕ). a ++ x) (sym (text-append fs gs)) }
+lines_then a b c fs gs p q = record { lines = q.lines ∙ ap (λ (x : List ℕ). x ++ lines_text_of gs) p.lines ∙ append_assoc a (lines_text_of fs) (lines_text_of gs) ∙ ap (λ (x : List ℕ). a ++ x) (sym (text-append fs gs)) }
 
 pub keeps_lines : (a b : List ℕ) (fs : List (ℕ × List ℕ)) → AppendsLines a b fs → KeepsFront a b
-keeps_lines a b fs p = keeps_append a b (text_of fs) p.lines
+keeps_lines a b fs p = keeps_append a b (lines_text_of fs) p.lines
 
 pub keeps_after : (a b c : List ℕ) (fs : List (ℕ × List ℕ)) → AppendsLines a b fs → KeepsFront b c → KeepsFront a c
-keeps_after a b c fs p h = keeps_then a b c (text_of fs) p.lines h
+keeps_after a b c fs p h = keeps_then a b c (lines_text_of fs) p.lines h
 
 -- a name with its spaces, a value and a line feed are a line
 pub line_made : (key : ℕ) (a b c d value : List ℕ) → b ≡ a ++ (name_of key ++ replicate (15 - length (name_of key)) 32) → c ≡ b ++ value → d ≡ c ++ 10 ∷ [] → AppendsLines a d ((key, value) ∷ [])

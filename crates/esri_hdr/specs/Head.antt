@@ -1,7 +1,7 @@
 -- The head that a header's text gives, or its first fault.
-use Rattle.std.specs.Prelude.{◌≡◌, ◌<◌, ◌≤◌, ◌⊎◌, IfSome, ℕ, ℤ, pos, neg_ℤ, ◌+ℤ◌, ◌-ℤ◌, ◌*ℤ◌, ◌*◌, ◌/◌, Bool, true}
-use Rattle.std.specs.Prelude.{ok_or, false, ◌&&◌, List, length, Option, Some, None, Result, Ok, Err, nat_lt}
-use Rattle.std.specs.Prelude.{if◌then◌else◌, unsigned_abs, int_lt}
+use Rattle.std.specs.Prelude.{◌≡◌, ◌<◌, ◌≤◌, IfSome, ℕ, ℤ, pos, neg_ℤ, ◌+ℤ◌, ◌-ℤ◌, ◌*ℤ◌, ◌*◌, ◌/◌, Bool, true, ok_or}
+use Rattle.std.specs.Prelude.{false, ◌&&◌, List, length, Option, Some, None, Result, Ok, Err, nat_lt, if◌then◌else◌}
+use Rattle.std.specs.Prelude.{unsigned_abs, int_lt}
 use Rattle.std.specs.Option.{option_map}
 use Rattle.lists_and_answers.specs.Answers.{◌>>=◌}
 use Rattle.geotransform.specs.Decimal.{ticks_of, whole_of, IsRead}
@@ -18,7 +18,7 @@ use Rattle.esri_hdr.specs.declared.header_parts.Layout.TheVariants.{Bil, Bip, Bs
 use Rattle.esri_hdr.specs.declared.header_parts.RawGeo.{RawGeo}
 use Rattle.esri_hdr.specs.declared.header_parts.Shape.{Shape}
 use Rattle.esri_hdr.specs.declared.header_parts.Rows.{Rows}
-use Rattle.esri_hdr.specs.Lines.{Values, last_of}
+use Rattle.esri_hdr.specs.Lines.{Values, last_in_text}
 use Rattle.esri_hdr.specs.Values.{side_in, bands_in, bits_in, big_endian_in, layout_in, skip_in, signed_in}
 use Rattle.esri_hdr.specs.Values.{type_of_bits}
 use Rattle.esri_hdr.specs.Values.{band_row_in, total_row_in, gap_in, BandRowFits, TotalRowFits, GapFits, longest_gap}
@@ -76,8 +76,8 @@ abbrev pub row_len : Shape → ℕ
 row_len s = s.w * (s.bits / 8)
 
 -- the keys from BANDROWBYTES to BANDGAPBYTES
-unfoldable pub rows_of : Shape → Values → Result Rows HdrFault
-rows_of s value = do
+unfoldable pub row_keys_of : Shape → Values → Result Rows HdrFault
+row_keys_of s value = do
   band_row ← band_row_in s.layout (row_len s) (value keys.bandrowbytes)
   total_row ← total_row_in s.layout s.bands (row_len s) band_row (value keys.totalrowbytes)
   gap ← gap_in s.layout (value keys.bandgapbytes)
@@ -129,7 +129,7 @@ head_from s r geo nodata = record {
 unfoldable pub head_of : Values → Result Head HdrFault
 head_of value = do
   s ← shape_of value
-  r ← rows_of s value
+  r ← row_keys_of s value
   geo ← geo_of value
   Ok (head_from s r geo (value keys.nodata))
 
@@ -139,7 +139,7 @@ longest_header = 1048576
 
 -- the head that a text gives, or the first fault
 unfoldable pub esri_head : List ℕ → Result Head HdrFault
-esri_head text = if nat_lt longest_header (length text) then Err Limit else head_of (last_of text)
+esri_head text = if nat_lt longest_header (length text) then Err Limit else head_of (last_in_text text)
 
 -- the bytes of a sample
 abbrev pub sample_len : PixelType → ℕ
@@ -178,14 +178,6 @@ pub record IsHead (h : Head) : Type 0 where
   })
   pub nodata : IfSome h.nodata (λ n. is_in h.kind n ≡ true)
   pub geo : IfSome h.geo GeoFits
-
--- the rules of what the first keys say
-pub record IsShape (s : Shape) : Type 0 where
-  pub width : IsSide s.w
-  pub height : IsSide s.h
-  pub bands : (0 < s.bands) × (s.bands ≤ most_bands)
-  pub skip : s.skip ≤ longest_gap
-  pub bits : (s.bits ≡ 8) ⊎ ((s.bits ≡ 16) ⊎ ((s.bits ≡ 32) ⊎ (s.bits ≡ 64)))
 
 -- half of a size of a pixel, which is above 0 and even
 abbrev pub half_of : ℤ → ℤ

@@ -5,3 +5,5 @@ pub mod Lines
 pub mod Values
 pub mod Head
 pub mod Text
+-- What private clauses, views and proofs speak of.
+pub mod Steps

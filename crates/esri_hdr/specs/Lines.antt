@@ -1,8 +1,5 @@
 -- The lines of a header, their keys and values.
 use Rattle.std.specs.Prelude.{ℕ, Bool, ◌||◌, List, [], ◌∷◌, length, Option, Some, None, ◌==◌, if◌then◌else◌}
-use Rattle.std.specs.Prelude.{slice_index_or}
-use Rattle.std.specs.Option.{option_map}
-use denote.Bor.{Bor}
 use Rattle.std.specs.List.{slice_split, position}
 use Rattle.lists_and_answers.specs.Bytes.{line_feed, carriage_return}
 use Rattle.lists_and_answers.specs.Texts.{same_letters, token_at}
@@ -53,13 +50,9 @@ last_in key [] = None
 last_in key (line ∷ more) = or_else (last_in key more) (value_in key line)
 
 -- the value that the last line of a text that has the key gives it
-abbrev pub last_of : List ℕ → ℕ → Option (List ℕ)
-last_of text key = last_in key (lines text)
+abbrev pub last_in_text : List ℕ → ℕ → Option (List ℕ)
+last_in_text text key = last_in key (lines text)
 
 -- the value of each key
 abbrev pub Values : Type 0
 Values = ℕ → Option (List ℕ)
-
--- the values that were found, by the numbers of their keys
-abbrev pub lookup : List (Option (Bor (List ℕ))) → Values
-lookup found key = option_map (λ v. v.now) (slice_index_or found key None)

@@ -1,5 +1,5 @@
 -- The text of a header that is written.
-use Rattle.std.specs.Prelude.{◌≡◌, ℕ, ℤ, ◌-◌, ◌*◌, Bool, List, [], ◌∷◌, ◌++◌, length, Option, Some, None, if◌then◌else◌}
+use Rattle.std.specs.Prelude.{ℕ, ℤ, ◌-◌, ◌*◌, Bool, List, [], ◌∷◌, ◌++◌, length, Option, Some, None, if◌then◌else◌}
 use Rattle.std.specs.Prelude.{codes, get_or, replicate}
 use Rattle.std.specs.Fmt.{decimal, signed_decimal}
 use Rattle.lists_and_answers.specs.Bytes.{line_feed, space_byte}
@@ -22,9 +22,9 @@ abbrev pub content_of : ℕ → List ℕ → List ℕ
 content_of key value = name_of key ++ (replicate (15 - length (name_of key)) space_byte ++ value)
 
 -- a line for each key and value, which ends with a line feed
-abbrev pub text_of : List (ℕ × List ℕ) → List ℕ
-text_of [] = []
-text_of (field ∷ more) = content_of field.0 field.1 ++ line_feed ∷ text_of more
+abbrev pub lines_text_of : List (ℕ × List ℕ) → List ℕ
+lines_text_of [] = []
+lines_text_of (field ∷ more) = content_of field.0 field.1 ++ line_feed ∷ lines_text_of more
 
 -- the value of BYTEORDER
 abbrev pub order_text : Bool → List ℕ
@@ -77,8 +77,4 @@ fields_of h = fields_from h h.nodata h.geo
 
 -- the text that is written of a head
 unfoldable pub hdr_text : Head → List ℕ
-hdr_text h = text_of (fields_of h)
-
--- the new bytes are the old ones and these lines
-pub record AppendsLines (old new : List ℕ) (fields : List (ℕ × List ℕ)) : Type 0 where
-  pub lines : new ≡ old ++ text_of fields
+hdr_text h = lines_text_of (fields_of h)

@@ -4,7 +4,8 @@ ghost use Rattle.std.specs.Option.{option_map};
 ghost use Rattle.std.specs.List.{before_first, after_first, position_or_len, position};
 ghost use Rattle.lists_and_answers.specs.Texts.{same_letters};
 ghost use Rattle.esri_hdr.specs.Keys.{names};
-ghost use Rattle.esri_hdr.specs.Lines.{is_line_end, key_of, entry_at, last_of, lookup};
+ghost use Rattle.esri_hdr.specs.Lines.{is_line_end, key_of, entry_at, last_in_text};
+ghost use Rattle.esri_hdr.specs.Steps.{lookup};
 
 use crate::keys::NAMES;
 use lists_and_answers::{same_letters, token_at};
@@ -66,7 +67,7 @@ fn entry_at(line: &[u8]) -> Option<(usize, &[u8])>
 #[tactic(auto, using(crate::proofs::Last::last_step, crate::proofs::Last::last_none, crate::proofs::Last::or_else_none, crate::proofs::Last::found_set))]
 /// The value of each key in the last of the lines that gives it one.
 pub fn scan(bytes: &[u8]) -> [Option<&[u8]>; 16]
-    ensures { lookup result ≡ last_of bytes.now }
+    ensures { lookup result ≡ last_in_text bytes.now }
 {
     let mut found: [Option<&[u8]>; 16] = [None; 16];
     let mut rest = bytes;

@@ -2,12 +2,11 @@
 ghost use Rattle.std.specs.Prelude.{IfSome, true, int_lt, pos, ◌+ℤ◌, ◌-ℤ◌, ◌≡◌, ℕ, ◌<◌, ◌≤◌, ◌+◌, ◌*◌, ◌/◌, ◌^◌};
 ghost use Rattle.std.specs.Prelude.{length, IfOk, Option};
 ghost use Rattle.std.specs.Option.{option_map};
-ghost use Rattle.esri_hdr.specs.Lines.{lookup};
+ghost use Rattle.esri_hdr.specs.Steps.{lookup, IsShape};
 ghost use Rattle.geotransform.specs.Decimal.{IsRead};
 ghost use Rattle.geotransform.specs.Types.{is_in};
-ghost use Rattle.esri_hdr.specs.Head.{IsShape, RowsFit, GeoFits, place_in, step_in, geo_in};
-ghost use Rattle.esri_hdr.specs.Head.{nodata_in, shape_of, row_len, rows_of, geo_of, head_from, head_of, esri_head};
-ghost use Rattle.esri_hdr.specs.Head.{IsHead};
+ghost use Rattle.esri_hdr.specs.Head.{RowsFit, GeoFits, place_in, step_in, geo_in, nodata_in, shape_of, row_len};
+ghost use Rattle.esri_hdr.specs.Head.{row_keys_of, geo_of, head_from, head_of, esri_head, IsHead};
 
 use crate::centre::{is_left_near, is_top_near};
 use crate::head::RawHead;
@@ -53,10 +52,10 @@ fn shape_of(found: &Found<'_>) -> Result<Shape, HdrFault>
     })
 }
 
-#[tactic(auto, unfolding(crate::specs::Head::rows_of))]
+#[tactic(auto, unfolding(crate::specs::Head::row_keys_of))]
 fn rows_of(shape: &Shape, found: &Found<'_>) -> Result<Rows, HdrFault>
     requires { IsShape shape.now }
-    ensures value { result ≡ rows_of shape.now (lookup found.now) }
+    ensures value { result ≡ row_keys_of shape.now (lookup found.now) }
     ensures fit { IfOk result (RowsFit shape.now.layout shape.now.bands (row_len shape.now)) }
 {
     let row = row_len(shape);

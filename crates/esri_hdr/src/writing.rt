@@ -3,8 +3,9 @@ ghost use Rattle.std.specs.Prelude.{◌≡◌, ℕ, ◌<◌, ◌≤◌, ◌+◌,
 ghost use Rattle.std.specs.Fmt.{decimal};
 ghost use Rattle.lists_and_answers.specs.Growth.{KeepsFront};
 ghost use Rattle.geotransform.specs.Print.{short_text};
-ghost use Rattle.esri_hdr.specs.Text.{AppendsLines, order_text, layout_text, sign_text, nodata_fields, geo_fields};
-ghost use Rattle.esri_hdr.specs.Text.{layout_fields, sample_fields, row_fields, hdr_text};
+ghost use Rattle.esri_hdr.specs.Text.{order_text, layout_text, sign_text, nodata_fields, geo_fields, layout_fields};
+ghost use Rattle.esri_hdr.specs.Text.{sample_fields, row_fields, hdr_text};
+ghost use Rattle.esri_hdr.specs.Steps.{AppendsLines};
 
 use crate::head::{RawHead, sample_len};
 use crate::header_parts::{Layout, RawGeo};

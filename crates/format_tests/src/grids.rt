@@ -121,7 +121,7 @@ const FAULTS: &str = "\
     5 53 ncols 1 nrows 1 xllcorner 0 yllcorner 0 cellsize 1 7 3.5 |\
     2 51 ncols 1 nrows 1 xllcorner 0 yllcorner 0 cellsize 1 x 7";
 
-fn place_of(fault: GridFault) -> Option<i128> {
+fn fault_place(fault: GridFault) -> Option<i128> {
     Some(fault.place()? as i128)
 }
 
@@ -129,7 +129,7 @@ fn place_of(fault: GridFault) -> Option<i128> {
 fn is_fault(alloc: Global, text: &[u8], number: u32, place: Option<i128>) -> bool {
     match scan(alloc, text, b"") {
         Ok(_) => number == 0 && place.is_none(),
-        Err(fault) => fault.number() as u32 == number && place_of(fault) == place,
+        Err(fault) => fault.number() as u32 == number && fault_place(fault) == place,
     }
 }
 

@@ -10,11 +10,11 @@ use vrt_profile::{Document, Source, VrtBand, VrtFault, read};
 fn is_fault(alloc: Global, text: &[u8], number: u32, place: u64) -> bool {
     match read(alloc, text) {
         Ok(_) => number == 0 && place == 0,
-        Err(fault) => fault.number() as u32 == number && place_of(&fault) == place,
+        Err(fault) => fault.number() as u32 == number && fault_place(&fault) == place,
     }
 }
 
-fn place_of(fault: &VrtFault) -> u64 {
+fn fault_place(fault: &VrtFault) -> u64 {
     match fault.place() {
         Some(place) => place,
         None => 0,
@@ -348,7 +348,7 @@ fn elements_in_one_another(rt: HostRuntime) {
 fn is_front(alloc: Global, front: &[u8]) -> bool {
     match read(alloc, front) {
         Ok(_) => false,
-        Err(fault) => fault.number() == 1 && place_of(&fault) <= front.len() as u64,
+        Err(fault) => fault.number() == 1 && fault_place(&fault) <= front.len() as u64,
     }
 }
 

@@ -18,7 +18,8 @@ use Rattle.command_words.specs.declared.command.Job.{Job}
 use Rattle.command_words.specs.declared.command.Job.TheVariants.{Locate}
 use Rattle.command_words.specs.declared.spoken.WordFault.{WordFault}
 use Rattle.command_words.specs.declared.spoken.WordFault.TheVariants as word
-use Rattle.gdal_cli.specs.Faults.{IsOfLines, word_fault_of}
+use Rattle.gdal_cli.specs.Faults.{word_fault_of}
+use Rattle.gdal_cli.specs.Input.{IsOfLines}
 use Rattle.gdal_cli.specs.Location.{asked_in}
 use Rattle.translation_runs.specs.Ends.{ended}
 use Rattle.gdal_cli.specs.Run.{MayEnd, IsRefusal, reads_input, reads_pixels, words_make_rasters}

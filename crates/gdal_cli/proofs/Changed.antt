@@ -9,7 +9,7 @@ use Rattle.error_lines.specs.declared.faults.Fault.{Fault}
 use Rattle.error_lines.specs.declared.faults.Fault.TheVariants.{Changed}
 use Rattle.error_lines.specs.Faults.{IsOutside, load_fault_of}
 use Rattle.output_copies.specs.Copying.{TellsChange}
-use Rattle.gdal_cli.specs.Location.{PutsText}
+use Rattle.gdal_cli.specs.Jobs.{PutsText}
 
 -- a call that puts a text, or behind which the outside failed
 pub puts_unchanged : (text : List ℕ) (r : Result (Unit {0}) Fault) (before after : Option (List ℕ)) → PutsText text r before after → (name : List ℕ) (was : ℕ) (now : Option ℕ) → r ≡ Err (Changed name was now) → ⊥

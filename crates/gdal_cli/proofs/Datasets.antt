@@ -11,7 +11,8 @@ use Rattle.error_lines.specs.declared.faults.Fault.{Fault}
 use Rattle.error_lines.specs.declared.faults.Fault.TheVariants.{NotRecognized, Usage, Memory}
 use Rattle.translation_runs.specs.Ends.{ended}
 use Rattle.translation_runs.proofs.Ended.{refused_so}
-use Rattle.gdal_cli.specs.Run.{name_read, reads_sources, RefusesIn, RefusesKind, RefusesDataset}
+use Rattle.gdal_cli.specs.Run.{name_read, reads_sources, RefusesDataset}
+use Rattle.gdal_cli.specs.Jobs.{RefusesIn, RefusesKind}
 
 ends_so : (result : Result (Unit {0}) Fault) (f : Fault) → (result ≡ Err f) ⊎ (result ≡ Err Memory) → (ended result ≡ Some f) ⊎ (ended result ≡ Some Memory)
 ends_so result f (inl is) = inl (ap ended is)

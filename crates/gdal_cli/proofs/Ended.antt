@@ -24,10 +24,11 @@ use Rattle.error_lines.specs.declared.faults.Fault.{Fault}
 use Rattle.error_lines.specs.declared.faults.Fault.TheVariants.{OutFault}
 use Rattle.error_lines.specs.Faults.{fault_of, report_fault_of, by_walk, IsOutside}
 use Rattle.gdal_cli.specs.declared.asked.Asked.{Asked}
-use Rattle.gdal_cli.specs.Input.{AnswersInput, StopsBehind}
-use Rattle.gdal_cli.specs.Location.{answers, asked_in, line_text, point_text, PutsText}
+use Rattle.gdal_cli.specs.Input.{AnswersInput}
+use Rattle.gdal_cli.specs.Run.{StopsBehind}
+use Rattle.gdal_cli.specs.Location.{answers, asked_in, line_text, point_text}
+use Rattle.gdal_cli.specs.Jobs.{PutsText, Ends}
 use Rattle.error_lines.specs.Steps.{Done, all_done, prints, printed}
-use Rattle.gdal_cli.specs.Run.{Ends}
 use Rattle.gdal_cli.specs.Work.{Work, Reports, Tells, info_judged, location_judged, carried_out}
 use Rattle.gdal_cli.proofs.Cuts.{printed_one, printed_prints}
 

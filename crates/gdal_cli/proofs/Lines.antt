@@ -16,8 +16,10 @@ use Rattle.input_points.specs.Reading.{Reading, start, kept, behind, coming}
 use Rattle.error_lines.specs.declared.faults.Fault.{Fault}
 use Rattle.error_lines.specs.declared.faults.Fault.TheVariants.{Changed}
 use Rattle.error_lines.specs.Faults.{IsOutside}
-use Rattle.gdal_cli.specs.Location.{answers, line_text, line_fault, first_fault, lines_text, lines_fault, PutsText}
-use Rattle.gdal_cli.specs.Input.{IsReading, room_of, Answered, EndsLines, AnswersInput, StopsBehind}
+use Rattle.gdal_cli.specs.Location.{answers, line_text, line_fault, first_fault, lines_fault}
+use Rattle.gdal_cli.specs.Jobs.{lines_text, PutsText}
+use Rattle.gdal_cli.specs.Input.{IsReading, room_of, Answered, EndsLines, AnswersInput}
+use Rattle.gdal_cli.specs.Run.{StopsBehind}
 use Rattle.gdal_cli.proofs.Cuts.{printed_prints}
 
 abbrev pub stopped_by : Fault → Result (Unit {0}) Fault

@@ -15,7 +15,8 @@ use Rattle.mosaic_builds.specs.Built.{Built, built_in}
 use Rattle.mosaic_builds.specs.Ends as mosaics
 use Rattle.mosaic_builds.specs.Steps.{mosaic_done}
 use Rattle.translation_runs.specs.Ends.{ended}
-use Rattle.gdal_cli.specs.Run.{IsRefusal, MayEnd, RefusesOnly}
+use Rattle.gdal_cli.specs.Run.{IsRefusal, MayEnd}
+use Rattle.gdal_cli.specs.Jobs.{RefusesOnly}
 use Rattle.gdal_cli.specs.Work.{Builds, build_judged, carried_out}
 use Rattle.translation_runs.proofs.Ended.{no_change, refused_so}
 

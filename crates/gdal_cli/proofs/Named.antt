@@ -17,7 +17,7 @@ use Rattle.command_words.specs.declared.spoken.Spoken.{Spoken}
 use Rattle.command_words.specs.declared.spoken.Wanted.{Wanted}
 use Rattle.command_words.specs.declared.spoken.WordFault.{WordFault}
 use Rattle.command_words.specs.declared.spoken.WordFault.TheVariants.{Usage}
-use Rattle.command_words.specs.Jobs.{point_of, form_of, is_same_format, of_format, written_as, written_of, view_of, layout_in, asked_of, options_of, info_job, locate_job, translate_job, inputs_of, asked_mosaic, mosaic_options, build_job, synth_job, job_of}
+use Rattle.command_words.specs.Jobs.{asked_point, form_of, is_same_format, of_format, written_as, written_of, view_of, layout_in, asked_of, options_of, info_job, locate_job, translate_job, inputs_of, asked_mosaic, mosaic_options, build_job, synth_job, job_of}
 use Rattle.command_words.specs.Options.{tool_of}
 use Rattle.command_words.specs.Uses.{spoken_in}
 use Rattle.command_words.specs.Words.{command_of, words_of}
@@ -83,7 +83,7 @@ named_locate : (count : ℕ) (s : Spoken) (j : Job) → locate_job count s ≡ O
 unfolding locate_job
 named_locate count s j is =
     let name = bind_is (ok_or s.source (Usage count)) _ j is in
-    let point = bind_is (ok_or (point_of s.x s.y) (Usage count)) _ j name.rest in
+    let point = bind_is (ok_or (asked_point s.x s.y) (Usage count)) _ j name.rest in
     let form = bind_is (form_of s.values_only s.files_only) _ j point.rest in
     subst IsNamedJob (ok_same {E = WordFault} (job.Locate name.value point.value s.bands form.value s.geoloc) j _ refl form.rest) tt
 

@@ -9,7 +9,8 @@ use Rattle.error_lines.specs.declared.faults.Fault.{Fault}
 use Rattle.error_lines.specs.declared.faults.Fault.TheVariants.{Usage, Absent, NotRecognized, Malformed, Short, Cycle, TooDeep, Limit, SourceBand, Plan, Build, SameName, BadPoint, Changed, FolderFault, InputFault, OutFault, Memory}
 use Rattle.error_lines.specs.Faults.{IsOutside, HasCauses, fault_status, status_of}
 use Rattle.translation_runs.specs.Ends.{ended}
-use Rattle.gdal_cli.specs.Run.{Ends, Answers, IsRefusal}
+use Rattle.gdal_cli.specs.Run.{Answers, IsRefusal}
+use Rattle.gdal_cli.specs.Jobs.{Ends}
 use Rattle.error_lines.specs.Steps.{Step, Done, prints, printed, applied, cut_short, IsFirstPart, AreDone, Goes}
 use Rattle.gdal_cli.proofs.Cuts.{cut_none, cut_whole, prints_cut, prints_done}
 

@@ -13,8 +13,10 @@ use Rattle.input_points.specs.Reading.{Reading, start, coming}
 use Rattle.error_lines.specs.declared.faults.Fault.{Fault}
 use Rattle.error_lines.specs.declared.faults.Fault.TheVariants.{FolderFault, InputFault, OutFault}
 use Rattle.error_lines.specs.Faults.{IsOutside, HasCauses}
-use Rattle.gdal_cli.specs.Location.{answers, line_text, line_fault, lines_text, PutsText}
-use Rattle.gdal_cli.specs.Input.{IsReading, Answered, EndsLines, AnswersPieces, AnswersInput, StopsBehind, HoldsOfGiven}
+use Rattle.gdal_cli.specs.Location.{answers, line_text, line_fault}
+use Rattle.gdal_cli.specs.Jobs.{lines_text, PutsText}
+use Rattle.gdal_cli.specs.Input.{IsReading, Answered, EndsLines, AnswersPieces, AnswersInput, HoldsOfGiven}
+use Rattle.gdal_cli.specs.Run.{StopsBehind}
 use Rattle.gdal_cli.proofs.Ended.{nothing_put}
 use Rattle.gdal_cli.proofs.Lines.{answered_none, answered_more, ends_of, failed_behind, stopped, whole_input, last_input, line_stops, ends_behind, gone_on, stopped_by}
 
@@ -100,7 +102,7 @@ module _ (tell : ℤ → ℤ → List ℕ) where
   }
 
   -- a piece was taken, and the lines that ended in it were answered
-  pub taken_more : (r new : Reading) (input bytes piece : List ℕ) (n : ℕ) (left now before mid after : Option (List ℕ)) → TakenSo r before mid input left → ((b : List ℕ) → left ≡ Some b → streams.Taken b bytes now n) → piece ≡ take n bytes → Answered tell r piece new [] mid after → TakenSo new before after input now
+  pub taken_more : (r new : Reading) (input bytes piece : List ℕ) (n : ℕ) (left now before mid after : Option (List ℕ)) → TakenSo r before mid input left → ((b : List ℕ) → left ≡ Some b → streams.TakenFrom b bytes now n) → piece ≡ take n bytes → Answered tell r piece new [] mid after → TakenSo new before after input now
   taken_more r new input bytes piece n left now before mid after t took is answered =
       let got = took t.rest t.left_is in
       let same : piece ≡ take n t.rest = is ∙ got.bytes in
@@ -114,7 +116,7 @@ module _ (tell : ℤ → ℤ → List ℕ) where
       }
 
   -- the lines end in a piece
-  pub piece_stops : (r : Reading) (input bytes piece : List ℕ) (n : ℕ) (f : Fault) (left now before mid after : Option (List ℕ)) → TakenSo r before mid input left → ((b : List ℕ) → left ≡ Some b → streams.Taken b bytes now n) → piece ≡ take n bytes → ((more : List ℕ) → EndsLines tell (coming lines r (piece ++ more)) f mid after) → EndsLines tell (entries input) f before after
+  pub piece_stops : (r : Reading) (input bytes piece : List ℕ) (n : ℕ) (f : Fault) (left now before mid after : Option (List ℕ)) → TakenSo r before mid input left → ((b : List ℕ) → left ≡ Some b → streams.TakenFrom b bytes now n) → piece ≡ take n bytes → ((more : List ℕ) → EndsLines tell (coming lines r (piece ++ more)) f mid after) → EndsLines tell (entries input) f before after
   piece_stops r input bytes piece n f left now before mid after t took is h =
       let got = took t.rest t.left_is in
       let same : piece ≡ take n t.rest = is ∙ got.bytes in
@@ -135,7 +137,7 @@ module _ (tell : ℤ → ℤ → List ℕ) where
   all_given input given rest parts none = sym (parts ∙ ap (λ (s : List ℕ). given ++ s) none ∙ append-nil given)
 
   -- the input was taken to its end
-  pub pieces_end : (r : Reading) (input bytes : List ℕ) (n : ℕ) (left now before after : Option (List ℕ)) → TakenSo r before after input left → ((b : List ℕ) → left ≡ Some b → streams.Taken b bytes now n) → n ≡ 0 → AnswersPieces tell input now r (Ok tt) before after
+  pub pieces_end : (r : Reading) (input bytes : List ℕ) (n : ℕ) (left now before after : Option (List ℕ)) → TakenSo r before after input left → ((b : List ℕ) → left ≡ Some b → streams.TakenFrom b bytes now n) → n ≡ 0 → AnswersPieces tell input now r (Ok tt) before after
   pieces_end r input bytes n left now before after t took none =
       let got = took t.rest t.left_is in
       let at_end : t.rest ≡ [] = got.at_end none in

@@ -24,7 +24,8 @@ use Rattle.synth_runs.specs.Runs.{then_run, followed, tiles_run, inner_options, 
 use Rattle.translation_runs.specs.Ends.{ended}
 use Rattle.translation_runs.proofs.Ended.{refused_so}
 use Rattle.translation_runs.proofs.Silent.{run_silent}
-use Rattle.gdal_cli.specs.Run.{MayEnd, RefusesOnly, makes_rasters, names_published}
+use Rattle.gdal_cli.specs.Run.{MayEnd, makes_rasters, names_published}
+use Rattle.gdal_cli.specs.Jobs.{RefusesOnly}
 
 -- runs one behind the other warn of nothing where each doesn't
 followed_silent : (steps : List Step) (fault : Option Fault) (next : Done) → warned steps ≡ [] → warned next.steps ≡ [] → warned (followed steps fault next).steps ≡ []

@@ -16,7 +16,8 @@ use Rattle.translation_runs.specs.Ends.{RefusesName, ended}
 use Rattle.translation_runs.specs.Judged.{Judged, translation_done, translation_judged, translation_run}
 use Rattle.translation_runs.proofs.Ended.{refused_so}
 use Rattle.translation_runs.proofs.Silent.{run_silent}
-use Rattle.gdal_cli.specs.Run.{MayEnd, RefusesKind}
+use Rattle.gdal_cli.specs.Run.{MayEnd}
+use Rattle.gdal_cli.specs.Jobs.{RefusesKind}
 use Rattle.gdal_cli.specs.Work.{Translates, translate_judged, carried_out}
 
 -- what is judged is done as work is

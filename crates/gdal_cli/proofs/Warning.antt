@@ -12,7 +12,8 @@ use Rattle.error_lines.proofs.Silent.{goes_with, prints_silent}
 use Rattle.error_lines.proofs.Warned.{none_warned}
 use Rattle.mosaic_builds.specs.Steps.{warns}
 use Rattle.translation_runs.specs.Ends.{ended}
-use Rattle.gdal_cli.specs.Run.{AreTold, Ends, MayWarn, TellsFault}
+use Rattle.gdal_cli.specs.Run.{AreTold, TellsFault}
+use Rattle.gdal_cli.specs.Jobs.{Ends, MayWarn}
 use Rattle.gdal_cli.proofs.Cuts.{cut_silent, cut_whole}
 use Rattle.gdal_cli.proofs.Outcomes.{nothing_done, outside_status, printing_goes}
 

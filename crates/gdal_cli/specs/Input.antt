@@ -6,12 +6,17 @@ use Rattle.outside.specs.Streams.{Gets, GetsPart}
 use Rattle.input_points.specs.declared.entry.Entry.{Entry}
 use Rattle.input_points.specs.Lines.{ended_lines}
 use Rattle.input_points.specs.Points.{longest_line}
-use Rattle.input_points.specs.Entries.{most_lines, entries, ended_entries}
+use Rattle.input_points.specs.Entries.{most_lines, entries}
 use Rattle.input_points.specs.Reading.{Reading, start, coming}
+use Rattle.catalog.specs.declared.faults.LimitKind.TheVariants.{Points}
 use Rattle.error_lines.specs.declared.faults.Fault.{Fault}
 use Rattle.error_lines.specs.Faults.{IsOutside}
-use Rattle.gdal_cli.specs.Location.{lines_text, lines_fault}
-use Rattle.error_lines.specs.Steps.{Done, printed}
+use Rattle.error_lines.specs.declared.faults.Fault.TheVariants.{Usage, Absent, NotRecognized, Malformed, Short, Cycle}
+use Rattle.error_lines.specs.declared.faults.Fault.TheVariants.{TooDeep, Limit, SourceBand, Plan, Build, SameName}
+use Rattle.error_lines.specs.declared.faults.Fault.TheVariants.{BadPoint, Changed, FolderFault, InputFault, OutFault}
+use Rattle.error_lines.specs.declared.faults.Fault.TheVariants.{Memory}
+use Rattle.gdal_cli.specs.Location.{lines_fault}
+use Rattle.gdal_cli.specs.Jobs.{lines_text}
 
 -- a reading goes on, within the limits on lines
 pub record IsReading (r : Reading) : Type 0 where
@@ -70,16 +75,6 @@ AnswersInput tell input left (Ok done) before after = (lines_fault (entries inpu
     Gets (lines_text tell (entries input)) before after × (left ≡ Some [])
 AnswersInput tell input left (Err fault) before after = EndsLines tell (entries input) fault before after
 
--- The input gave a first part of its bytes. The run over the whole lines among them, which `ran` gives, isn't refused,
--- and all that it prints is printed, and nothing more.
-pub record StopsBehind (ran : List Entry → Done) (input : List ℕ) (left before after : Option (List ℕ)) : Type 0 where
-  pub given : List ℕ
-  pub rest : List ℕ
-  pub parts : input ≡ given ++ rest
-  pub left_is : left ≡ Some rest
-  pub not_refused : (ran (ended_entries given)).fault ≡ None
-  pub answered : Gets (printed (ran (ended_entries given)).steps) before after
-
 -- what holds of the bytes that an input gave, behind which these are left
 pub record HoldsOfGiven (Holds : List ℕ → Type 0) (input : List ℕ) (left : Option (List ℕ)) : Type 0 where
   pub given : List ℕ
@@ -87,3 +82,24 @@ pub record HoldsOfGiven (Holds : List ℕ → Type 0) (input : List ℕ) (left :
   pub parts : input ≡ given ++ rest
   pub left_is : left ≡ Some rest
   pub holds : Holds given
+
+-- a fault that answering the lines of an input may end with
+abbrev pub IsOfLines : Fault → Type 0
+IsOfLines (Usage n) = ⊥
+IsOfLines (Absent name) = ⊥
+IsOfLines (NotRecognized name) = ⊥
+IsOfLines (Malformed name bad) = ⊥
+IsOfLines (Short name needed has) = ⊥
+IsOfLines (Cycle name) = ⊥
+IsOfLines (TooDeep name) = ⊥
+IsOfLines (Limit what value) = what ≡ Points
+IsOfLines (SourceBand name band) = ⊥
+IsOfLines (Plan fault) = ⊥
+IsOfLines (Build fault) = ⊥
+IsOfLines (SameName name) = ⊥
+IsOfLines (BadPoint line) = Unit {0}
+IsOfLines (Changed name was now) = Unit {0}
+IsOfLines FolderFault = Unit {0}
+IsOfLines InputFault = Unit {0}
+IsOfLines OutFault = Unit {0}
+IsOfLines Memory = Unit {0}

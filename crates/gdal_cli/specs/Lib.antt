@@ -3,8 +3,9 @@ pub mod Run
 pub mod Work
 pub mod Location
 pub mod Faults
-pub mod Input
 -- What private clauses, views and proofs speak of.
+pub mod Input
+pub mod Jobs
 pub mod Lanes
 pub mod Pixels
 pub mod Published

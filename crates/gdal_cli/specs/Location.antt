@@ -1,6 +1,6 @@
 -- What gdallocationinfo prints of points.
-use Rattle.std.specs.Prelude.{ℕ, ℤ, pos, ◌+◌, ◌-◌, Bool, true, false, List, [], ◌∷◌, length, map, flat_map}
-use Rattle.std.specs.Prelude.{nat_lt, Option, Some, None, Result, Ok, Err}
+use Rattle.std.specs.Prelude.{ℕ, ℤ, pos, ◌+◌, ◌-◌, Bool, true, false, List, [], ◌∷◌, map, nat_lt, Option, Some, None}
+use Rattle.std.specs.Prelude.{Result, Ok, Err}
 use Rattle.std.specs.List.{range_with_len, find}
 use Rattle.lists_and_answers.specs.Answers.{◌>>=◌}
 use Rattle.geotransform.specs.Geo.{Transform, located}
@@ -9,7 +9,6 @@ use Rattle.geotransform.specs.Places.{floor_of}
 use Rattle.geotransform.specs.declared.faults.PlanFault.TheVariants.{NoBand, NoGeo}
 use Rattle.geotransform.specs.Pixels.{within}
 use Rattle.outside.specs.Outside.{Files}
-use Rattle.outside.specs.Streams.{Gets, GetsPart}
 use Rattle.input_points.specs.Entries.{most_lines}
 use Rattle.input_points.specs.declared.entry.Entry.{Entry}
 use Rattle.input_points.specs.declared.entry.LineKind.{LineKind}
@@ -24,7 +23,6 @@ use Rattle.location_report.specs.declared.report.Form.{Form}
 use Rattle.gdal_cli.specs.declared.asked.Asked.{Asked}
 use Rattle.error_lines.specs.declared.faults.Fault.{Fault}
 use Rattle.error_lines.specs.declared.faults.Fault.TheVariants.{Plan, Limit, BadPoint}
-use Rattle.error_lines.specs.Faults.{IsOutside}
 use Rattle.error_lines.specs.Steps.{Done, all_done, prints}
 
 -- the bands that are chosen by their numbers from 1, or all
@@ -102,10 +100,6 @@ abbrev pub first_fault : Option Fault → Option Fault → Option Fault
 first_fault None later = later
 first_fault (Some fault) later = Some fault
 
--- the answers to lines, and the first of their faults
-abbrev pub lines_text : (ℤ → ℤ → List ℕ) → List Entry → List ℕ
-lines_text tell lines = flat_map (λ (e : Entry). line_text tell e.kind) lines
-
 -- the fault of the first line that has one
 abbrev pub lines_fault : List Entry → Option Fault
 lines_fault [] = None
@@ -118,8 +112,3 @@ answers tell None lines = record {
   steps = prints (map (λ (e : Entry). line_text tell e.kind) lines);
   fault = lines_fault lines;
 }
-
--- a call puts a whole text, or a first part of it behind which the outside failed
-abbrev pub PutsText : List ℕ → Result (Unit {0}) Fault → Option (List ℕ) → Option (List ℕ) → Type 0
-PutsText text (Ok done) before after = Gets text before after
-PutsText text (Err fault) before after = IsOutside fault × GetsPart text before after

@@ -4,11 +4,12 @@ use Rattle.std.specs.Prelude.{Ok, Err}
 use Rattle.outside.specs.Outside.{Files}
 use Rattle.outside.specs.Causes.{Rose}
 use Rattle.outside.specs.Streams.{Gets, GetsPart}
+use Rattle.input_points.specs.declared.entry.Entry.{Entry}
+use Rattle.input_points.specs.Entries.{ended_entries}
 use Rattle.catalog.specs.Heads.{kind_in}
 use Rattle.catalog.specs.declared.faults.LimitKind.TheVariants as limits
 use Rattle.catalog.specs.declared.kind.Kind.{Kind}
 use Rattle.catalog.specs.declared.kind.Kind.TheVariants as kinds
-use Rattle.catalog.specs.declared.faults.WalkFault.{WalkFault}
 use Rattle.catalog.specs.declared.faults.WalkFault.TheVariants as walk
 use Rattle.command_words.specs.declared.command.Command.{Command}
 use Rattle.command_words.specs.declared.command.Job.{Job}
@@ -21,9 +22,9 @@ use Rattle.error_lines.specs.declared.faults.Fault.TheVariants as fault
 use Rattle.error_lines.specs.declared.faults.Fault.TheVariants.{Usage, Absent, NotRecognized, Malformed, Short, Cycle}
 use Rattle.error_lines.specs.declared.faults.Fault.TheVariants.{TooDeep, Limit, SourceBand, Plan, SameName, BadPoint}
 use Rattle.error_lines.specs.declared.faults.Fault.TheVariants.{Changed, FolderFault, InputFault, OutFault, Memory}
-use Rattle.error_lines.specs.Faults.{fault_of, IsOutside, status_of}
+use Rattle.error_lines.specs.Faults.{status_of}
 use Rattle.error_lines.specs.Texts.{error_line_of}
-use Rattle.error_lines.specs.Steps.{Step, Done, printed, warned, AreDone, AreWarned}
+use Rattle.error_lines.specs.Steps.{Step, Done, printed, warned, AreDone}
 use Rattle.translation_runs.specs.Published.{names_written}
 use Rattle.synth_runs.specs.Ends.{names_made}
 
@@ -74,14 +75,6 @@ warns_of_inputs (Locate name point bands form geoloc) = false
 warns_of_inputs (Translate src options quiet) = false
 warns_of_inputs (Build inputs list options quiet) = true
 warns_of_inputs (Synth side) = false
-
--- whether nothing is told of a job's work
-abbrev pub is_quiet : Job → Bool
-is_quiet (Info name) = false
-is_quiet (Locate name point bands form geoloc) = false
-is_quiet (Translate src options quiet) = quiet
-is_quiet (Build inputs list options quiet) = quiet
-is_quiet (Synth side) = false
 
 -- whether a job makes rasters from a number, whose later parts read what the earlier ones published
 abbrev pub makes_rasters : Job → Bool
@@ -149,25 +142,6 @@ pub record IsRefusal (fault : Option Fault) : Type 0 where
   pub no_line : (n : ℕ) → fault ≡ Some (BadPoint n) → ⊥
   pub no_limit : (n : ℕ) → fault ≡ Some (Limit limits.Points n) → ⊥
 
--- A name that tells no kind is refused so, or for want of memory; no other name is refused so that tells a kind, and
--- where `alone` holds no other name at all. Words are not looked at again.
-pub record RefusesKind (alone : Bool) (name : List ℕ) (result : Result (Unit {0}) Fault) : Type 0 where
-  pub always : (f : WalkFault) → kind_in name ≡ Err f → (result ≡ Err (fault_of f)) ⊎ (result ≡ Err Memory)
-  pub only : (n : List ℕ) → result ≡ Err (NotRecognized n) → kind_in n ≡ Err (walk.NotRecognized n)
-  pub own : alone ≡ true → (n : List ℕ) → result ≡ Err (NotRecognized n) → kind_in name ≡ Err (walk.NotRecognized n)
-  pub file : (k : Kind) (n : List ℕ) → kind_in name ≡ Ok k → (k ≡ kinds.Vrt → ⊥) → result ≡ Err (NotRecognized n) → ⊥
-  pub no_usage : (n : ℕ) → result ≡ Err (Usage n) → ⊥
-
--- The same of a job: where many names are read, none that tells a kind is refused so.
-pub record RefusesOnly (result : Result (Unit {0}) Fault) : Type 0 where
-  pub only : (n : List ℕ) → result ≡ Err (NotRecognized n) → kind_in n ≡ Err (walk.NotRecognized n)
-  pub no_usage : (n : ℕ) → result ≡ Err (Usage n) → ⊥
-
--- a name of one dataset is refused as RefusesKind says; where many are read, names are refused as RefusesOnly says
-abbrev pub RefusesIn : Bool → Option (List ℕ) → Result (Unit {0}) Fault → Type 0
-RefusesIn alone None result = RefusesOnly result
-RefusesIn alone (Some name) result = RefusesKind alone name result
-
 -- words that are no command are refused with their word, or for want of memory, and nothing else is
 pub record RefusesWords (words : Result Command WordFault) (fault : Option Fault) : Type 0 where
   pub always : (n : ℕ) → words ≡ Err (word.Usage n) → (fault ≡ Some (Usage n)) ⊎ (fault ≡ Some Memory)
@@ -184,12 +158,6 @@ pub record RefusesDataset (words : Result Command WordFault) (fault : Option Fau
       fault ≡ Some (NotRecognized n) → kind_in name ≡ Err (walk.NotRecognized n)
   pub file : (c : Command) (name : List ℕ) (k : Kind) (n : List ℕ) → words ≡ Ok c → name_read c.job ≡ Some name →
       kind_in name ≡ Ok k → (k ≡ kinds.Vrt → ⊥) → fault ≡ Some (NotRecognized n) → ⊥
-
--- how far the texts of a run were put: all of them, or a first part before a fault of the outside
-abbrev pub Ends : Done → Result (Unit {0}) Fault → Option (List ℕ) → Option (List ℕ) → Type 0
-Ends r (Ok done) before after = (r.fault ≡ None) × Gets (printed r.steps) before after
-Ends r (Err fault) before after = ((r.fault ≡ Some fault) × Gets (printed r.steps) before after) ⊎ (IsOutside fault ×
-    GetsPart (printed r.steps) before after)
 
 -- the answer, and all the steps
 pub record Answers (r : Done) (m : Files) (fault : Option Fault) (names : Option Files) (before after : Option (List ℕ))
@@ -214,10 +182,12 @@ pub record TellsFault (may : Bool) (fault : Option Fault) (faults faults_after :
   pub none : may ≡ false → warnings ≡ []
   pub refused : IsRefusal fault → warnings ≡ []
 
--- the warnings that a job put on the error stream, which may have failed meanwhile
-pub record MayWarn (may : Bool) (fault : Option Fault) (failed : Bool) (faults faults_now : ℕ)
-    (before after : Option (List ℕ)) : Type 0 where
-  pub warnings : List (List ℕ)
-  pub told : AreWarned (warns warnings) failed faults faults_now before after
-  pub none : may ≡ false → warnings ≡ []
-  pub refused : IsRefusal fault → warnings ≡ []
+-- The input gave a first part of its bytes. The run over the whole lines among them, which `ran` gives, isn't refused,
+-- and all that it prints is printed, and nothing more.
+pub record StopsBehind (ran : List Entry → Done) (input : List ℕ) (left before after : Option (List ℕ)) : Type 0 where
+  pub given : List ℕ
+  pub rest : List ℕ
+  pub parts : input ≡ given ++ rest
+  pub left_is : left ≡ Some rest
+  pub not_refused : (ran (ended_entries given)).fault ≡ None
+  pub answered : Gets (printed (ran (ended_entries given)).steps) before after

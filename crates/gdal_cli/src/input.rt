@@ -9,11 +9,12 @@ ghost use Rattle.input_points.specs.Reading.{start, coming};
 ghost use Rattle.catalog.specs.Drivers.{Dataset};
 ghost use Rattle.error_lines.specs.Faults.{Differs, HasCauses};
 ghost use Rattle.output_copies.specs.Copying.{TellsChange};
-ghost use Rattle.gdal_cli.specs.Faults.{IsOfLines};
-ghost use Rattle.gdal_cli.specs.Input.{IsReading, room_of, AnswersNext, AnswersPiece, AnswersPieces, AnswersInput};
-ghost use Rattle.gdal_cli.specs.Input.{StopsBehind};
+ghost use Rattle.gdal_cli.specs.Input.{IsOfLines, IsReading, room_of, AnswersNext, AnswersPiece, AnswersPieces};
+ghost use Rattle.gdal_cli.specs.Input.{AnswersInput};
+ghost use Rattle.gdal_cli.specs.Run.{StopsBehind};
 ghost use Rattle.gdal_cli.specs.Lanes.{IsReadyWith};
-ghost use Rattle.gdal_cli.specs.Location.{answers, point_text, line_text, line_fault, PutsText};
+ghost use Rattle.gdal_cli.specs.Location.{answers, point_text, line_text, line_fault};
+ghost use Rattle.gdal_cli.specs.Jobs.{PutsText};
 ghost use Rattle.gdal_cli.specs.Pixels.{HasBands};
 
 use crate::points::put_point;

@@ -10,13 +10,13 @@ ghost use Rattle.catalog.specs.Drivers.{Dataset};
 ghost use Rattle.catalog.specs.Walk.{IsWalked};
 ghost use Rattle.error_lines.specs.Faults.{HasCauses, HasChanged, IsOutside, OwnsFault, Differs, IsOfReading};
 ghost use Rattle.translation_runs.specs.Ends.{ended};
-ghost use Rattle.gdal_cli.specs.Faults.{IsOfLines};
-ghost use Rattle.gdal_cli.specs.Input.{StopsBehind};
+ghost use Rattle.gdal_cli.specs.Input.{IsOfLines};
+ghost use Rattle.gdal_cli.specs.Run.{StopsBehind, MayEnd, IsRefusal, name_read, names_published, makes_rasters};
+ghost use Rattle.gdal_cli.specs.Run.{reads_sources, reads_input, warns_of_inputs};
 ghost use Rattle.gdal_cli.specs.Location.{answers, point_text};
 ghost use Rattle.gdal_cli.specs.Pixels.{HasBands};
 ghost use Rattle.gdal_cli.specs.Published.{IsNamedJob};
-ghost use Rattle.gdal_cli.specs.Run.{Ends, MayEnd, MayWarn, IsRefusal, name_read, names_published, makes_rasters};
-ghost use Rattle.gdal_cli.specs.Run.{is_quiet, reads_sources, reads_input, warns_of_inputs, RefusesIn, RefusesKind};
+ghost use Rattle.gdal_cli.specs.Jobs.{Ends, MayWarn, is_quiet, RefusesIn, RefusesKind};
 ghost use Rattle.error_lines.specs.Steps.{AreWarned, GoesWarning};
 ghost use Rattle.gdal_cli.specs.Work.{info_judged, location_judged, judged_by, carried_out};
 

@@ -5,7 +5,8 @@ ghost use Rattle.input_points.specs.declared.entry.Entry.{Entry};
 ghost use Rattle.error_lines.specs.Faults.{HasCauses, HasChanged, OwnsFault};
 ghost use Rattle.error_lines.specs.Steps.{AreWarned, GoesWarning};
 ghost use Rattle.translation_runs.specs.Ends.{ended};
-ghost use Rattle.gdal_cli.specs.Run.{MayEnd, MayWarn, IsRefusal, RefusesOnly};
+ghost use Rattle.gdal_cli.specs.Run.{MayEnd, IsRefusal};
+ghost use Rattle.gdal_cli.specs.Jobs.{MayWarn, RefusesOnly};
 ghost use Rattle.gdal_cli.specs.Work.{carried_out, build_judged};
 
 use command_words::Job;

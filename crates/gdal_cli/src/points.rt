@@ -7,7 +7,8 @@ ghost use Rattle.location_report.specs.Covering.{covering_files};
 ghost use Rattle.error_lines.specs.Faults.{IsOutside, Differs, HasCauses, IsOfReading};
 ghost use Rattle.output_copies.specs.Copying.{TellsChange};
 ghost use Rattle.gdal_cli.specs.Lanes.{IsReadyWith};
-ghost use Rattle.gdal_cli.specs.Location.{column_and_line, told_text, point_text, PutsText};
+ghost use Rattle.gdal_cli.specs.Location.{column_and_line, told_text, point_text};
+ghost use Rattle.gdal_cli.specs.Jobs.{PutsText};
 ghost use Rattle.gdal_cli.specs.Pixels.{IsOnRaster, HasBands};
 ghost use Rattle.gdal_cli.specs.Untold.{TellsPlace, PutsPlace};
 

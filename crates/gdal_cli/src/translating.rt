@@ -6,7 +6,8 @@ ghost use Rattle.error_lines.specs.Faults.{HasCauses, HasChanged, OwnsFault};
 ghost use Rattle.error_lines.specs.Steps.{Goes};
 ghost use Rattle.translation_runs.specs.Ends.{ended};
 ghost use Rattle.translation_runs.specs.Published.{IsNamed};
-ghost use Rattle.gdal_cli.specs.Run.{MayEnd, IsRefusal, RefusesKind};
+ghost use Rattle.gdal_cli.specs.Run.{MayEnd, IsRefusal};
+ghost use Rattle.gdal_cli.specs.Jobs.{RefusesKind};
 ghost use Rattle.gdal_cli.specs.Work.{carried_out, translate_judged};
 
 use command_words::Job;

@@ -4,7 +4,7 @@ ghost use Rattle.outside.specs.Outside.{Files};
 ghost use Rattle.outside.specs.Causes.{HasCause};
 ghost use Rattle.catalog.specs.Pixels.{pixel_of};
 ghost use Rattle.error_lines.specs.Faults.{IsOutside, Differs, IsOfReading};
-ghost use Rattle.nearest_window.specs.Shown.{IsInBand};
+ghost use Rattle.nearest_window.specs.Windows.{IsInBand};
 ghost use Rattle.output_copies.specs.Copying.{TellsChange};
 ghost use Rattle.gdal_cli.specs.Lanes.{IsReadyWith};
 ghost use Rattle.gdal_cli.specs.Pixels.{IsOnRaster, AreBands, AreOfBands, HasBands};

@@ -12,7 +12,7 @@ use Rattle.std.proofs.lemmas.Bool.Decides.{nat_tests}
 use Rattle.std.proofs.lemmas.Int.{ints}
 use Rattle.std.proofs.lemmas.List.Sums.{fold-append, prefix_len_stops}
 use Rattle.lists_and_answers.specs.Options.{◌>>=◌}
-use Rattle.geotransform.specs.Decimal.{number, half_up, scaled, signed, short_number, Decimal, sign_at, digits_at, fraction_at, exponent_of, with_digits, parts_of, magnitude, magnitude_at, near_at, ticks_of, places_of}
+use Rattle.geotransform.specs.Decimal.{number, half_up, scaled, signed, short_number, Decimal, sign_at, digits_at, fraction_at, exponent_of, with_digits, parts_of, magnitude, rounded_magnitude, rounded_near, ticks_of, places_of}
 use Rattle.geotransform.specs.Parts.{brief, limited, counted_digits}
 use Rattle.geotransform.proofs.Numbers.{half_le, number_short, all_taken}
 use Rattle.geotransform.proofs.RoundTrip.{digits-cons}
@@ -200,11 +200,11 @@ bound : (t : Bool) (y : ℕ) (b : Bool) → (cond t (Some y) None >>= λ n. Some
 bound true y b = refl
 bound false y b = refl
 
-places_from : (k : ℕ) (o : Option Decimal) (b : Bool) (m : ℕ) (p : ℤ) → option_map brief o ≡ Some (b, (m, p)) → (o >>= λ d. near_at k d >>= λ n. Some (signed d.negative n)) ≡ cond (nat_lt (scaled m (p +ℤ pos 16)) (10 ^ 28)) (Some (signed b (scaled m (p +ℤ pos k)))) None
+places_from : (k : ℕ) (o : Option Decimal) (b : Bool) (m : ℕ) (p : ℤ) → option_map brief o ≡ Some (b, (m, p)) → (o >>= λ d. rounded_near k d >>= λ n. Some (signed d.negative n)) ≡ cond (nat_lt (scaled m (p +ℤ pos 16)) (10 ^ 28)) (Some (signed b (scaled m (p +ℤ pos k)))) None
 places_from k None b m p h = absurd (cc)
 places_from k (Some d) b m p h =
     let same : brief d ≡ (b, (m, p)) = cc in
-    bound (nat_lt (magnitude d) (10 ^ 28)) (magnitude_at k d) d.negative
+    bound (nat_lt (magnitude d) (10 ^ 28)) (rounded_magnitude k d) d.negative
     ∙ ap (λ (t : Bool × (ℕ × ℤ)). cond (nat_lt (scaled t.1.0 (t.1.1 +ℤ pos 16)) (10 ^ 28)) (Some (signed t.0 (scaled t.1.0 (t.1.1 +ℤ pos k)))) None) same
 
 pub places_few : (k : ℕ) (text : List ℕ) (b : Bool) (m : ℕ) (p : ℤ) → option_map brief (parts_of text) ≡ Some (b, (m, p)) → places_of k text ≡ (if nat_lt (scaled m (p +ℤ pos 16)) (10 ^ 28) then Some (signed b (scaled m (p +ℤ pos k))) else None)

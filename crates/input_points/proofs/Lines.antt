@@ -7,7 +7,8 @@ use Rattle.std.proofs.lemmas.List.{append-nil, length-take-le, length-drop, get_
 use Rattle.std.proofs.lemmas.List.Sums.{prefix_len_passes, prefix_len_stops, list_all-from_AllPass}
 use Rattle.std.proofs.lemmas.List.Splits.{slice_split-cons_no}
 use Rattle.std.proofs.lemmas.Bool.{not-true, not-false, eqb-true, ne_eqb, cases_Bool, and_parts}
-use Rattle.input_points.specs.Lines.{is_in_line, lines_but_last, ended_lines, IsLineIn}
+use Rattle.input_points.specs.Lines.{is_in_line, lines_but_last, ended_lines}
+use Rattle.input_points.specs.Cuts.{IsLineIn}
 
 abbrev pub parts : List ℕ → List (List ℕ)
 parts text = slice_split (λ c. c == 10) text

@@ -9,7 +9,8 @@ use Rattle.std.proofs.lemmas.List.Folds.{list_all-append}
 use Rattle.input_points.specs.declared.entry.Entry.{Entry}
 use Rattle.input_points.specs.declared.entry.LineKind.{LineKind}
 use Rattle.input_points.specs.declared.entry.LineKind.TheVariants.{Bad, TooMany}
-use Rattle.input_points.specs.Lines.{is_in_line, ended_lines, IsLineIn}
+use Rattle.input_points.specs.Lines.{is_in_line, ended_lines}
+use Rattle.input_points.specs.Cuts.{IsLineIn}
 use Rattle.input_points.specs.Points.{line_kind_of}
 use Rattle.input_points.specs.Entries.{ends, entry_of, entries_from}
 use Rattle.input_points.specs.Reading.{Reading, kept, behind, coming}

@@ -3,3 +3,5 @@ pub mod Lines
 pub mod Points
 pub mod Entries
 pub mod Reading
+-- What private clauses, views and proofs speak of.
+pub mod Cuts

@@ -1,7 +1,7 @@
 -- The lines of an input. All of them are std's `lines`: they end with a line feed or with a carriage return and a line
 -- feed, and a last one without an end counts where it isn't empty.
-use Rattle.std.specs.Prelude.{◌≡◌, ℕ, ◌+◌, ◌<◌, Bool, true, not, List, [], ◌∷◌, ◌++◌, length, drop, ◌==◌}
-use Rattle.std.specs.List.{slice_split, list_all}
+use Rattle.std.specs.Prelude.{ℕ, Bool, not, List, [], ◌∷◌, ◌==◌}
+use Rattle.std.specs.List.{slice_split}
 use Rattle.std.specs.Str.Lines.{strip_carriage_return}
 use Rattle.lists_and_answers.specs.Bytes.{line_feed}
 
@@ -18,9 +18,3 @@ lines_but_last (part ∷ (next ∷ parts)) = strip_carriage_return part ∷ line
 -- the lines of a text that have an end
 abbrev pub ended_lines : List ℕ → List (List ℕ)
 ended_lines text = lines_but_last (slice_split (λ c. c == line_feed) text)
-
--- the bytes before the first line feed of a text
-pub record IsLineIn (line text : List ℕ) : Type 0 where
-  pub inside : list_all is_in_line line ≡ true
-  pub parts : text ≡ line ++ line_feed ∷ drop (length line + 1) text
-  pub within : length line < length text

@@ -3,7 +3,8 @@ ghost use Rattle.std.specs.Prelude.{◌≡◌, ◌≤◌, length, true, MatchOpt
 ghost use Rattle.std.specs.List.{prefix_len, list_all};
 ghost use Rattle.std.specs.Str.Lines.{strip_carriage_return};
 ghost use Rattle.geotransform.specs.Decimal.{ticks_of};
-ghost use Rattle.input_points.specs.Lines.{is_in_line, IsLineIn};
+ghost use Rattle.input_points.specs.Lines.{is_in_line};
+ghost use Rattle.input_points.specs.Cuts.{IsLineIn};
 ghost use Rattle.input_points.specs.Points.{point_of, line_kind_of};
 
 use crate::entry::LineKind;

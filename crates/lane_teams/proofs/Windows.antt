@@ -15,8 +15,8 @@ use Rattle.catalog.proofs.Walked.{dataset_kept}
 use Rattle.band_blocks.proofs.Corners.{rect_at, rows_cut}
 use Rattle.band_blocks.specs.declared.fault.LoadFault.{LoadFault}
 use Rattle.nearest_window.specs.declared.window.Window.{Window}
-use Rattle.nearest_window.specs.Shown.{IsInBand, IsWindow}
-use Rattle.lane_teams.specs.Parts.{lines_before, lines_of, part_of, AreOfWindow}
+use Rattle.nearest_window.specs.Windows.{IsInBand, IsWindow}
+use Rattle.lane_teams.specs.Parts.{lines_before, lane_lines, part_of, AreOfWindow}
 
 pub before_rises : (lines n a b : ℕ) → 0 < n → a ≤ b → lines_before lines n a ≤ lines_before lines n b
 before_rises lines n a b some order =
@@ -34,13 +34,13 @@ pub before_below : (lines n k : ℕ) → 0 < n → k ≤ n → lines_before line
 before_below lines n k some order = let e = before_end lines n some in let r = before_rises lines n k n some order in omega arith
 
 -- the lines of two parts
-lines_joined : (f : ℕ → ℕ → ℤ) (rect : Rect) (n a m b : ℕ) → 0 < n → a ≤ m → m ≤ b → row_by_row f (lines_of rect n a m) ++ row_by_row f (lines_of rect n m b) ≡ row_by_row f (lines_of rect n a b)
+lines_joined : (f : ℕ → ℕ → ℤ) (rect : Rect) (n a m b : ℕ) → 0 < n → a ≤ m → m ≤ b → row_by_row f (lane_lines rect n a m) ++ row_by_row f (lane_lines rect n m b) ≡ row_by_row f (lane_lines rect n a b)
 lines_joined f rect n a m b some up on =
     let p = before_rises rect.h n a m some up in
     let q = before_rises rect.h n m b some on in
     let line : rect.y + lines_before rect.h n m ≡ rect.y + lines_before rect.h n a + (lines_before rect.h n m - lines_before rect.h n a) = omega arith in
     let all : lines_before rect.h n b - lines_before rect.h n a ≡ (lines_before rect.h n m - lines_before rect.h n a) + (lines_before rect.h n b - lines_before rect.h n m) = omega arith in
-    rows_cut f (lines_of rect n a b) (lines_of rect n a m) (lines_of rect n m b)
+    rows_cut f (lane_lines rect n a b) (lane_lines rect n a m) (lane_lines rect n m b)
     (record { upper_left = refl; upper_wide = refl; top = refl; lower_left = refl; lower_wide = refl; line = line; lines = all })
 
 -- the samples of two parts are those of both
@@ -49,17 +49,17 @@ pub both_shown : (told : Option Files) (cat : List Dataset) (window : Window) (n
 both_shown told cat window n a m b p q some up on front back = record {
   pixels = λ f e.
       ap (λ xs. xs ++ q) (front.pixels f e)
-      ∙ ap (λ xs. row_by_row (pixel_of f cat window.dataset window.band) (lines_of window.rect n a m) ++ xs) (back.pixels f e)
+      ∙ ap (λ xs. row_by_row (pixel_of f cat window.dataset window.band) (lane_lines window.rect n a m) ++ xs) (back.pixels f e)
       ∙ lines_joined (pixel_of f cat window.dataset window.band) window.rect n a m b some up on;
   named = λ f d e at.
       ap (λ xs. xs ++ q) (front.named f d e at)
-      ∙ ap (λ xs. row_by_row (pixel_of_name f d.head.name window.band) (lines_of window.rect n a m) ++ xs) (back.named f d e at)
+      ∙ ap (λ xs. row_by_row (pixel_of_name f d.head.name window.band) (lane_lines window.rect n a m) ++ xs) (back.named f d e at)
       ∙ lines_joined (pixel_of_name f d.head.name window.band) window.rect n a m b some up on;
   typed = All-append (IsInBand cat window.dataset window.band) p q front.typed back.typed;
 }
 
 -- the lines of all lanes
-whole_lines : (rect : Rect) (n : ℕ) → 0 < n → lines_of rect n 0 n ≡ rect
+whole_lines : (rect : Rect) (n : ℕ) → 0 < n → lane_lines rect n 0 n ≡ rect
 whole_lines rect n some =
     let s = before_first rect.h n some in
     let e = before_end rect.h n some in
@@ -92,7 +92,7 @@ window_low cat window valid w =
     omega (arith, lines, down)
 
 -- the samples of two parts
-pub sizes : (rect : Rect) (n a m b : ℕ) → 0 < n → a ≤ m → m ≤ b → rect.w * (lines_of rect n a b).h ≡ rect.w * (lines_of rect n a m).h + rect.w * (lines_of rect n m b).h
+pub sizes : (rect : Rect) (n a m b : ℕ) → 0 < n → a ≤ m → m ≤ b → rect.w * (lane_lines rect n a b).h ≡ rect.w * (lane_lines rect n a m).h + rect.w * (lane_lines rect n m b).h
 sizes rect n a m b some up on =
     let p = before_rises rect.h n a m some up in
     let q = before_rises rect.h n m b some on in

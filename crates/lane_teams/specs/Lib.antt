@@ -2,5 +2,6 @@
 pub mod Parts
 pub mod Ready
 pub mod Refusals
-pub mod Turns
 pub mod Workers
+-- What private clauses, views and proofs speak of.
+pub mod Turns

@@ -7,7 +7,7 @@ use Rattle.catalog.specs.Drivers.{Dataset}
 use Rattle.catalog.specs.Pixels.{pixel_of, pixel_of_name}
 use Rattle.catalog.specs.Places.{row_by_row}
 use Rattle.nearest_window.specs.declared.window.Window.{Window}
-use Rattle.nearest_window.specs.Shown.{IsInBand}
+use Rattle.nearest_window.specs.Windows.{IsInBand}
 
 -- How many of n lanes read a window of so many lines and samples: the first alone where there are fewer lines than
 -- lanes, or where less than `fewest` samples come to each.
@@ -19,8 +19,8 @@ abbrev pub lines_before : ℕ → ℕ → ℕ → ℕ
 lines_before lines n k = k * lines / n
 
 -- the lines of a rectangle that the lanes from a up to b, of n, read
-abbrev pub lines_of : Rect → ℕ → ℕ → ℕ → Rect
-lines_of rect n a b = record {
+abbrev pub lane_lines : Rect → ℕ → ℕ → ℕ → Rect
+lane_lines rect n a b = record {
   x = rect.x;
   y = rect.y + lines_before rect.h n a;
   w = rect.w;
@@ -30,7 +30,7 @@ lines_of rect n a b = record {
 
 -- the part of a window that these lanes read
 abbrev pub part_of : Window → ℕ → ℕ → ℕ → Window
-part_of window n a b = record { dataset = window.dataset; band = window.band; rect = lines_of window.rect n a b }
+part_of window n a b = record { dataset = window.dataset; band = window.band; rect = lane_lines window.rect n a b }
 
 -- the samples are the pixels of a window, row by row, as far as the folder tells its files, and each is in the band's
 -- type

@@ -1,5 +1,5 @@
--- When all lanes of a team are ready.
-use Rattle.std.specs.Prelude.{◌≡◌, ◌<◌, List, length, Option}
+-- When all lanes of a team are ready, and what they do to the folder.
+use Rattle.std.specs.Prelude.{◌≡◌, ◌<◌, List, length, Option, ◌≤◌}
 use Rattle.std.specs.List.{All}
 use Rattle.outside.specs.declared.folder.Folder.{Ghosts}
 use Rattle.outside.specs.Outside.{Files}
@@ -21,3 +21,10 @@ pub record AreLanesFresh {F File Draft : Type 0} (calls : Ghosts F File Draft) (
   where
     pub some : 0 < length lanes
     pub fresh : All (IsFresh calls) lanes
+
+-- only reads were made, some of them through views: the files are as before, no write was counted, and the count of
+-- faults isn't lower
+pub record OnlyReadByViews {F File Draft : Type 0} (calls : Ghosts F File Draft) (before after : F) : Type 0 where
+  pub names : calls.names after ≡ calls.names before
+  pub writes : calls.write_calls after ≤ calls.write_calls before
+  pub faults : calls.faults before ≤ calls.faults after

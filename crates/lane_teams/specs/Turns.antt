@@ -9,18 +9,11 @@ use Rattle.band_blocks.specs.declared.fault.LoadFault.TheVariants.{FolderFault}
 use Rattle.band_blocks.specs.Open.{IsUnchanged}
 use Rattle.nearest_window.specs.Lanes.{LaneView, room_of}
 use Rattle.nearest_window.specs.Right.{IsRightLane, TellsChangeIn}
-use Rattle.nearest_window.specs.Shown.{IsWindow}
+use Rattle.nearest_window.specs.Windows.{IsWindow}
 use Rattle.lane_teams.specs.declared.cutting.Job.{Job}
 use Rattle.lane_teams.specs.declared.turns.Turn.{Turn}
 use Rattle.lane_teams.specs.Parts.{part_of, AreOfWindow}
 use Rattle.lane_teams.specs.Refusals.{Answer, HaveAnswered}
-
--- only reads were made, some of them through views: the files are as before, no write was counted, and the count of
--- faults isn't lower
-pub record OnlyReadByViews {F File Draft : Type 0} (calls : Ghosts F File Draft) (before after : F) : Type 0 where
-  pub names : calls.names after ≡ calls.names before
-  pub writes : calls.write_calls after ≤ calls.write_calls before
-  pub faults : calls.faults before ≤ calls.faults after
 
 -- What a view of a folder is, and what its lane has answered: the view has the folder's files, and wrote nothing. A
 -- refusal has its cause in the view's count of faults.

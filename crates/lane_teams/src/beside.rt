@@ -8,10 +8,11 @@ ghost use Rattle.outside.specs.Reading.{WhereTold};
 ghost use Rattle.band_blocks.specs.Open.{IsUnchanged};
 ghost use Rattle.nearest_window.specs.Lanes.{room_of};
 ghost use Rattle.nearest_window.specs.Right.{IsReady, TellsChangeIn};
-ghost use Rattle.nearest_window.specs.Shown.{IsWindow};
+ghost use Rattle.nearest_window.specs.Windows.{IsWindow};
 ghost use Rattle.lane_teams.specs.Parts.{AreOfWindow};
 ghost use Rattle.lane_teams.specs.Refusals.{IsTeamAnswer};
-ghost use Rattle.lane_teams.specs.Turns.{AreReady, HaveRead, OnlyReadByViews};
+ghost use Rattle.lane_teams.specs.Turns.{AreReady, HaveRead};
+ghost use Rattle.lane_teams.specs.Ready.{OnlyReadByViews};
 
 use crate::cutting::{Job, part_of};
 use crate::pair::both;

@@ -7,7 +7,7 @@ ghost use Rattle.catalog.specs.Walk.{IsWalked};
 ghost use Rattle.band_blocks.specs.Open.{IsUnchanged};
 ghost use Rattle.nearest_window.specs.Lanes.{room_of};
 ghost use Rattle.nearest_window.specs.Right.{IsReady, IsRightLane, TellsChangeIn};
-ghost use Rattle.nearest_window.specs.Shown.{IsWindow};
+ghost use Rattle.nearest_window.specs.Windows.{IsWindow};
 ghost use Rattle.lane_teams.specs.Parts.{AreOfWindow};
 ghost use Rattle.lane_teams.specs.Turns.{AreReady, HaveRead, IsTurnOf};
 

@@ -12,10 +12,10 @@ ghost use Rattle.band_blocks.specs.Contents.{most_calls};
 ghost use Rattle.band_blocks.specs.Open.{IsUnchanged};
 ghost use Rattle.nearest_window.specs.Lanes.{held_count, room_of};
 ghost use Rattle.nearest_window.specs.Right.{IsFresh, IsReady, slack_of, TellsChangeIn};
-ghost use Rattle.nearest_window.specs.Shown.{IsInBand, IsWindow};
+ghost use Rattle.nearest_window.specs.Windows.{IsInBand, IsWindow};
 ghost use Rattle.lane_teams.specs.Parts.{readers_of};
 ghost use Rattle.lane_teams.specs.Refusals.{IsTeamAnswer};
-ghost use Rattle.lane_teams.specs.Turns.{OnlyReadByViews};
+ghost use Rattle.lane_teams.specs.Ready.{OnlyReadByViews};
 ghost use Rattle.band_blocks.specs.Blocks.{most_blocks};
 
 use crate::beside::read_beside;

@@ -6,7 +6,8 @@ ghost use Rattle.outside.specs.Reading.{WhereTold};
 ghost use Rattle.band_blocks.specs.Open.{IsUnchanged};
 ghost use Rattle.nearest_window.specs.Right.{TellsChangeIn};
 ghost use Rattle.lane_teams.specs.Refusals.{first_of, first_refusal};
-ghost use Rattle.lane_teams.specs.Turns.{IsTurnOf, OnlyReadByViews};
+ghost use Rattle.lane_teams.specs.Turns.{IsTurnOf};
+ghost use Rattle.lane_teams.specs.Ready.{OnlyReadByViews};
 
 use band_blocks::LoadFault;
 use catalog::Catalog;

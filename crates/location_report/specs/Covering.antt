@@ -7,7 +7,7 @@ use Rattle.geotransform.specs.declared.types.Size.{Size}
 use Rattle.vrt_profile.specs.Values.{BandValue, SourceValue}
 use Rattle.vrt_profile.specs.Cover.{cover_of}
 use Rattle.catalog.specs.Drivers.{Dataset, document_of}
-use Rattle.catalog.specs.Links.{member_of}
+use Rattle.catalog.specs.Links.{member_in}
 
 -- a name that was found, behind others, unless it is among them
 abbrev pub with_found : List (List ℕ) → Option (List ℕ) → List (List ℕ)
@@ -25,7 +25,7 @@ sources_at d band = unwrap_or (option_map (λ (b : BandValue). b.sources)
 
 -- the name of the dataset of a catalog that a source of a mosaic names, where the source covers the pixel
 abbrev pub covering_in : List Dataset → Dataset → ℕ → ℕ → SourceValue → Option (List ℕ)
-covering_in cat d x y s = option_and_then (slice_get cat) (member_of cat d.head.name s) >>= λ t.
+covering_in cat d x y s = option_and_then (slice_get cat) (member_in cat d.head.name s) >>= λ t.
     covering_name s d.head.size t.head.name t.head.size x y
 
 -- these names, and behind them those of the datasets that cover a pixel of a band by its sources, each that isn't among

@@ -5,7 +5,8 @@ use Rattle.outside.specs.Causes.{HasCause}
 use Rattle.error_lines.specs.declared.faults.Fault.{Fault}
 use Rattle.error_lines.specs.declared.faults.Fault.TheVariants.{Absent, NotRecognized, Malformed, Short, Cycle, TooDeep, Limit, SourceBand, Build, SameName, FolderFault, OutFault, Memory}
 use Rattle.error_lines.specs.Faults.{IsOutside, HasCauses, fault_status}
-use Rattle.mosaic_builds.specs.Ends.{IsOfNames, IsOfBuilding, IsOfMaking, IsOfWriting, MayEnd}
+use Rattle.mosaic_builds.specs.Ends.{IsOfBuilding, IsOfMaking, MayEnd}
+use Rattle.mosaic_builds.specs.Faults.{IsOfNames, IsOfWriting}
 
 -- a fault of names is one that a mosaic may end with
 pub may_names : (out : List ℕ) (f : Fault) → IsOfNames f → IsOfMaking out f

@@ -3,7 +3,7 @@ use Rattle.std.proofs.Common.{◌≡◌, ◌∙◌, ap, sym, refl, ℕ, zero, su
 use Rattle.std.specs.Prelude.{slice_get, option_map}
 use Rattle.catalog.specs.Dataset.{DatasetHead}
 use Rattle.catalog.specs.Drivers.{Dataset}
-use Rattle.catalog.specs.Walk.{number_of, dataset_named}
+use Rattle.catalog.specs.Walk.{dataset_number_in, dataset_named}
 use Rattle.buildvrt.proofs.Filled.{kept_number}
 use Rattle.mosaic_builds.specs.Walks.{AreKnown, head_of, head_at, heads_at, heads_of}
 
@@ -23,18 +23,18 @@ some_is : {T : Type 0} {x y : T} → Some x ≡ Some y → x ≡ y
 some_is e = cc
 
 abbrev pub numbers : List Dataset → List (List ℕ) → List (Option ℕ)
-numbers cat names = map (λ (name : List ℕ). number_of cat name) names
+numbers cat names = map (λ (name : List ℕ). dataset_number_in cat name) names
 
 abbrev pub somes : List ℕ → List (Option ℕ)
 somes ids = map (λ (id : ℕ). Some id) ids
 
-first_is : (cat : List Dataset) (name : List ℕ) (names : List (List ℕ)) (id : ℕ) (ids : List ℕ) → numbers cat (name ∷ names) ≡ somes (id ∷ ids) → number_of cat name ≡ Some id
+first_is : (cat : List Dataset) (name : List ℕ) (names : List (List ℕ)) (id : ℕ) (ids : List ℕ) → numbers cat (name ∷ names) ≡ somes (id ∷ ids) → dataset_number_in cat name ≡ Some id
 first_is cat name names id ids is = cc
 
 others_are : (cat : List Dataset) (name : List ℕ) (names : List (List ℕ)) (id : ℕ) (ids : List ℕ) → numbers cat (name ∷ names) ≡ somes (id ∷ ids) → numbers cat names ≡ somes ids
 others_are cat name names id ids is = cc
 
-named : (cat : List Dataset) (name : List ℕ) (id : ℕ) → number_of cat name ≡ Some id → dataset_named cat name ≡ slice_get cat id
+named : (cat : List Dataset) (name : List ℕ) (id : ℕ) → dataset_number_in cat name ≡ Some id → dataset_named cat name ≡ slice_get cat id
 named cat name id is = rw is
 
 pub heads_named : (cat : List Dataset) (names : List (List ℕ)) (ids : List ℕ) → numbers cat names ≡ somes ids → heads_of cat names ≡ heads_at cat ids

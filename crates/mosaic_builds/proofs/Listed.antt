@@ -13,7 +13,7 @@ use Rattle.catalog.specs.declared.faults.LimitKind.TheVariants as limits
 use Rattle.error_lines.specs.declared.faults.Fault.{Fault}
 use Rattle.error_lines.specs.declared.faults.Fault.TheVariants.{Absent, Limit, Malformed, Memory}
 use Rattle.error_lines.specs.Faults.{IsOutside}
-use Rattle.mosaic_builds.specs.Inputs.{lines_in, text_of, within_limit, filled, with_lines, named_behind, names_in}
+use Rattle.mosaic_builds.specs.Inputs.{lines_in, list_text_in, within_limit, filled, with_lines, named_behind, names_in}
 
 pub absent_list : (m : Files) (name : List ℕ) → get m name ≡ None → lines_in m name ≡ Err (Absent name)
 unfolding lines_in
@@ -37,14 +37,14 @@ within bytes short =
     let is : nat_lt (2 ^ 26) (length bytes) ≡ false = grind (arith, nat_tests) in
     ap (λ (b : Bool). cond b (Err (Limit limits.List (length bytes))) (Ok tt)) is
 
-is_text : (name bytes : List ℕ) → IsUtf8 bytes → text_of name bytes ≡ Ok bytes
+is_text : (name bytes : List ℕ) → IsUtf8 bytes → list_text_in name bytes ≡ Ok bytes
 is_text name bytes is = ap (λ (b : Bool). cond b (Ok bytes) (Err (Malformed name bad.List))) (is_utf8-from_IsUtf8 bytes is)
 
 no_text_by : (name bytes : List ℕ) (b : Bool) → is_utf8 bytes ≡ b → ¬ (IsUtf8 bytes) → cond b (Ok bytes) (Err (Malformed name bad.List)) ≡ Err (Malformed name bad.List)
 no_text_by name bytes false is not_text = refl
 no_text_by name bytes true is not_text = absurd (not_text (IsUtf8-from_is_utf8 bytes is))
 
-no_text : (name bytes : List ℕ) → ¬ (IsUtf8 bytes) → text_of name bytes ≡ Err (Malformed name bad.List)
+no_text : (name bytes : List ℕ) → ¬ (IsUtf8 bytes) → list_text_in name bytes ≡ Err (Malformed name bad.List)
 no_text name bytes not_text = no_text_by name bytes (is_utf8 bytes) refl not_text
 
 read_lines : (m : Files) (name bytes : List ℕ) → get m name ≡ Some bytes → length bytes ≤ 67108864 → IsUtf8 bytes → lines_in m name ≡ Ok (filled (lines bytes))

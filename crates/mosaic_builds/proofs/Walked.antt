@@ -7,7 +7,7 @@ use Rattle.lists_and_answers.specs.Answers.{◌>>=◌}
 use Rattle.outside.specs.Outside.{Files}
 use Rattle.catalog.specs.Drivers.{Dataset}
 use Rattle.catalog.specs.Heads.{OwnsFaults}
-use Rattle.catalog.specs.Walk.{number_of, number_from, walked, TellsKinds}
+use Rattle.catalog.specs.Walk.{dataset_number_in, number_from, walked, TellsKinds}
 use Rattle.catalog.specs.Outcomes as outcomes
 use Rattle.catalog.specs.declared.faults.WalkFault.{WalkFault}
 use Rattle.catalog.specs.declared.faults.WalkFault.TheVariants as walk
@@ -64,20 +64,20 @@ all_kept : (cat more : List Dataset) (names : List (List ℕ)) (ids : List ℕ) 
 all_kept cat more [] ids is = is
 all_kept cat more (name ∷ names) [] is = let no : ⊥ = cc in absurd no
 all_kept cat more (name ∷ names) (id ∷ ids) is =
-    let here : number_of (cat ++ more) name ≡ Some id = kept_from 0 cat more name id (cc) in
+    let here : dataset_number_in (cat ++ more) name ≡ Some id = kept_from 0 cat more name id (cc) in
     let rest : numbers (cat ++ more) names ≡ somes ids = all_kept cat more names ids (cc) in
     cc
 
-one_last : (cat : List Dataset) (names : List (List ℕ)) (ids : List ℕ) (name : List ℕ) (id : ℕ) → numbers cat names ≡ somes ids → number_of cat name ≡ Some id → numbers cat (names ++ name ∷ []) ≡ somes (ids ++ id ∷ [])
+one_last : (cat : List Dataset) (names : List (List ℕ)) (ids : List ℕ) (name : List ℕ) (id : ℕ) → numbers cat names ≡ somes ids → dataset_number_in cat name ≡ Some id → numbers cat (names ++ name ∷ []) ≡ somes (ids ++ id ∷ [])
 one_last cat [] [] name id is one = cc
 one_last cat [] (i ∷ ids) name id is one = let no : ⊥ = cc in absurd no
 one_last cat (n ∷ names) [] name id is one = let no : ⊥ = cc in absurd no
 one_last cat (n ∷ names) (i ∷ ids) name id is one =
-    let here : number_of cat n ≡ Some i = cc in
+    let here : dataset_number_in cat n ≡ Some i = cc in
     let rest : numbers cat (names ++ name ∷ []) ≡ somes (ids ++ id ∷ []) = one_last cat names ids name id (cc) one in
     cc
 
-pub numbers_next : (old new : List Dataset) (kept : (more : List Dataset) × (new ≡ old ++ more)) (names : List (List ℕ)) (ids ids_now : List ℕ) (name : List ℕ) (id : ℕ) → AreNumbers old names ids → number_of new name ≡ Some id → ids_now ≡ ids ++ id ∷ [] → AreNumbers new (names ++ name ∷ []) ids_now
+pub numbers_next : (old new : List Dataset) (kept : (more : List Dataset) × (new ≡ old ++ more)) (names : List (List ℕ)) (ids ids_now : List ℕ) (name : List ℕ) (id : ℕ) → AreNumbers old names ids → dataset_number_in new name ≡ Some id → ids_now ≡ ids ++ id ∷ [] → AreNumbers new (names ++ name ∷ []) ids_now
 numbers_next old new kept names ids ids_now name id are one put = record {
   each =
       one_last new names ids name id (subst (λ (c : List Dataset). numbers c names ≡ somes ids) (sym kept.1) (all_kept old kept.0 names ids are.each)) one

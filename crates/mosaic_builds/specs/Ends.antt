@@ -1,5 +1,5 @@
 -- How the making of a mosaic may end over every folder.
-use Rattle.std.specs.Prelude.{ℕ, ◌≡◌, ◌⊎◌, List, Err}
+use Rattle.std.specs.Prelude.{ℕ, ◌≡◌, List, Err}
 use Rattle.catalog.specs.Heads.{kind_in, IsOwnFault}
 use Rattle.catalog.specs.declared.faults.WalkFault.TheVariants as walk
 use Rattle.buildvrt.specs.declared.faults.BuildFault.TheVariants as build
@@ -73,28 +73,3 @@ IsOfBuilding out FolderFault = ⊥
 IsOfBuilding out InputFault = ⊥
 IsOfBuilding out OutFault = ⊥
 IsOfBuilding out Memory = Unit {0}
-
--- those of the names of its inputs
-abbrev pub IsOfNames : Fault → Type 0
-IsOfNames (Usage n) = ⊥
-IsOfNames (Absent name) = ⊥
-IsOfNames (NotRecognized name) = ⊥
-IsOfNames (Malformed name b) = ⊥
-IsOfNames (Short name needed has) = ⊥
-IsOfNames (Cycle name) = ⊥
-IsOfNames (TooDeep name) = ⊥
-IsOfNames (Limit what value) = Unit {0}
-IsOfNames (SourceBand name band) = ⊥
-IsOfNames (Plan fault) = ⊥
-IsOfNames (Build fault) = ⊥
-IsOfNames (SameName name) = ⊥
-IsOfNames (BadPoint line) = ⊥
-IsOfNames (Changed name was now) = ⊥
-IsOfNames FolderFault = ⊥
-IsOfNames InputFault = ⊥
-IsOfNames OutFault = ⊥
-IsOfNames Memory = Unit {0}
-
--- only a call of the outside failed, or memory was refused
-abbrev pub IsOfWriting : Fault → Type 0
-IsOfWriting fault = (fault ≡ FolderFault) ⊎ ((fault ≡ OutFault) ⊎ (fault ≡ Memory))

@@ -27,8 +27,8 @@ abbrev pub within_limit : List ℕ → Result (Unit {0}) Fault
 within_limit bytes = if nat_lt longest_list (length bytes) then Err (Limit limits.List (length bytes)) else Ok tt
 
 -- the bytes of a list, which have to be UTF-8
-abbrev pub text_of : List ℕ → List ℕ → Result (List ℕ) Fault
-text_of name bytes = if is_utf8 bytes then Ok bytes else Err (Malformed name bad.List)
+abbrev pub list_text_in : List ℕ → List ℕ → Result (List ℕ) Fault
+list_text_in name bytes = if is_utf8 bytes then Ok bytes else Err (Malformed name bad.List)
 
 -- the lines that aren't empty
 abbrev pub is_filled : List ℕ → Bool
@@ -43,7 +43,7 @@ unfoldable pub lines_in : Files → List ℕ → Result (List (List ℕ)) Fault
 lines_in m name = do
   bytes ← list_in m name
   short ← within_limit bytes
-  text ← text_of name bytes
+  text ← list_text_in name bytes
   Ok (filled (lines text))
 
 abbrev pub listed_in : Files → Option (List ℕ) → Result (List (List ℕ)) Fault
@@ -67,11 +67,11 @@ with_lines names [] = Ok names
 with_lines names (line ∷ more) = name_of_line line >>= λ name. (with_name names name >>= λ next. with_lines next more)
 
 -- of the names that are given there are as many too
-abbrev pub few_of : List (List ℕ) → Result (Unit {0}) Fault
-few_of names = if nat_lt most_datasets (length names) then Err (Limit limits.Files (most_datasets + 1)) else Ok tt
+abbrev pub unless_many : List (List ℕ) → Result (Unit {0}) Fault
+unless_many names = if nat_lt most_datasets (length names) then Err (Limit limits.Files (most_datasets + 1)) else Ok tt
 
 abbrev pub named_behind : List (List ℕ) → List (List ℕ) → Result (List (List ℕ)) Fault
-named_behind names lines = few_of names >>= λ few. with_lines names lines
+named_behind names lines = unless_many names >>= λ few. with_lines names lines
 
 -- The names of the inputs, or the first refusal: that of the list as a whole, then that of the first name.
 unfoldable pub names_in : Files → List (List ℕ) → Option (List ℕ) → Result (List (List ℕ)) Fault

@@ -5,4 +5,5 @@ pub mod Built
 pub mod Steps
 pub mod Ends
 -- What private clauses, views and proofs speak of.
+pub mod Faults
 pub mod Feeds

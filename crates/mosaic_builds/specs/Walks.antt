@@ -6,7 +6,7 @@ use Rattle.lists_and_answers.specs.Answers.{◌>>=◌}
 use Rattle.outside.specs.Outside.{Files}
 use Rattle.catalog.specs.Dataset.{DatasetHead}
 use Rattle.catalog.specs.Drivers.{Dataset}
-use Rattle.catalog.specs.Walk.{number_of, dataset_named, walked}
+use Rattle.catalog.specs.Walk.{dataset_number_in, dataset_named, walked}
 use Rattle.error_lines.specs.declared.faults.Fault.{Fault}
 use Rattle.error_lines.specs.Faults.{by_walk}
 
@@ -17,7 +17,7 @@ walked_all m verify cat (name ∷ names) = by_walk (walked m verify cat name) >>
 
 -- these are the numbers of the datasets of these names
 pub record AreNumbers (cat : List Dataset) (names : List (List ℕ)) (ids : List ℕ) : Type 0 where
-  pub each : map (λ (name : List ℕ). number_of cat name) names ≡ map (λ (id : ℕ). Some id) ids
+  pub each : map (λ (name : List ℕ). dataset_number_in cat name) names ≡ map (λ (id : ℕ). Some id) ids
 
 -- they are numbers of datasets
 abbrev pub AreKnown : List Dataset → List ℕ → Type 0

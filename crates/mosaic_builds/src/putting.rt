@@ -7,7 +7,8 @@ ghost use Rattle.buildvrt.specs.Judging.{IsOneOf};
 ghost use Rattle.error_lines.specs.Faults.{HasCauses, fault_status};
 ghost use Rattle.error_lines.specs.Steps.{Step, Warns, AreWarned, Goes, GoesWarning, all_done};
 ghost use Rattle.mosaic_builds.specs.Built.{built_in, built_by, warning_of, IsMade};
-ghost use Rattle.mosaic_builds.specs.Ends.{MayEnd, IsOfWriting};
+ghost use Rattle.mosaic_builds.specs.Ends.{MayEnd};
+ghost use Rattle.mosaic_builds.specs.Faults.{IsOfWriting};
 ghost use Rattle.mosaic_builds.specs.Steps.{warns, progress_steps, publishing_steps, mosaic_steps, mosaic_done};
 ghost use Rattle.mosaic_builds.specs.Walks.{heads_at};
 

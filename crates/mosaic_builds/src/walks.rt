@@ -4,7 +4,7 @@ ghost use Rattle.lists_and_answers.specs.Answers.{Gives};
 ghost use Rattle.outside.specs.Outside.{Files};
 ghost use Rattle.outside.specs.Causes.{HasCause};
 ghost use Rattle.catalog.specs.Drivers.{Dataset};
-ghost use Rattle.catalog.specs.Walk.{number_of, walked, IsWalked};
+ghost use Rattle.catalog.specs.Walk.{dataset_number_in, walked, IsWalked};
 ghost use Rattle.error_lines.specs.Faults.{by_walk, IsOutside};
 ghost use Rattle.mosaic_builds.specs.Ends.{IsOfMaking};
 ghost use Rattle.mosaic_builds.specs.Walks.{walked_all, AreNumbers, AreKnown};
@@ -28,7 +28,7 @@ fn walk<F: Folder>(
 ) -> Result<u32, Fault>
     ensures told { (m : Files) → F.names folder.old ≡ Some m → Gives IsOutside (λ id. cat.new) result
         (by_walk (walked m verify cat.old name.now)) }
-    ensures number { IfOk result (λ id. number_of cat.new name.now ≡ Some id) }
+    ensures number { IfOk result (λ id. dataset_number_in cat.new name.now ≡ Some id) }
     ensures kept { (more : List Dataset) × (cat.new ≡ cat.old ++ more) }
     ensures walked { (m : Files) → F.names folder.old ≡ Some m → IsWalked m cat.old → IsWalked m cat.new }
     ensures names { F.names folder.new ≡ F.names folder.old }

@@ -8,8 +8,8 @@ use Rattle.std.proofs.lemmas.Bool.Decides.{nat_tests}
 use Rattle.std.proofs.lemmas.List.Kept.{AllPairs-from_increasing}
 use Rattle.std.proofs.lemmas.List.Sums.{sum_by-cons, count_by-le-length}
 use Rattle.std.proofs.lemmas.List.Elements.{Contains-get_or, All-contains}
-use Rattle.mosaic_sources.specs.Rows.{stretch_of}
-use Rattle.mosaic_sources.specs.Stretches.{is_in_span, holding_lines, HasEdges, IsEdge, IsEdgeOfOne}
+use Rattle.mosaic_sources.specs.Rows.{stretch_of, is_in_span}
+use Rattle.mosaic_sources.specs.Stretches.{holding_lines, HasEdges, IsEdge, IsEdgeOfOne}
 use Rattle.mosaic_sources.specs.declared.spans.Span.{Span}
 use Rattle.mosaic_sources.proofs.Passing.{tests_agree}
 

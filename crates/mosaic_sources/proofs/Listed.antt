@@ -5,8 +5,8 @@ use Rattle.std.proofs.lemmas.Bool.{cases_lt}
 use Rattle.std.proofs.lemmas.List.{ext_get_or}
 use Rattle.std.proofs.lemmas.List.FromFn.{get_or-map-range_with_len, length-map-range_with_len, sum_by-map-range_with_len_more}
 use Rattle.std.proofs.lemmas.List.Sums.{sum_by-cons, sum_by-le}
-use Rattle.mosaic_sources.specs.Rows.{passing_from, stretch_of, list_by, most_listed}
-use Rattle.mosaic_sources.specs.Stretches.{is_in_span, holding_lines, held_by, IsWithinCount, AreListsOf}
+use Rattle.mosaic_sources.specs.Rows.{passing_from, stretch_of, list_by, most_listed, is_in_span}
+use Rattle.mosaic_sources.specs.Stretches.{holding_lines, total_held, IsWithinCount, AreListsOf}
 use Rattle.mosaic_sources.specs.declared.spans.Span.{Span}
 use Rattle.mosaic_sources.proofs.Held.{stretch_within, le_true, le_false, lt_true, lt_false, and_true, and_false_left, and_false_right}
 
@@ -72,7 +72,7 @@ none_listed number (suc m) =
     ap (λ (k : ℕ). sum_by length (lists_to [] number k)) (sym n) ∙ here ∙ ap (λ (k : ℕ). k + 0) (none_listed number m)
 
 -- the lists have as many numbers as the spans hold places
-pub listed_is : (spans : List Span) (number m : ℕ) → All (IsWithinCount m) spans → sum_by length (lists_to spans number m) ≡ held_by spans
+pub listed_is : (spans : List Span) (number m : ℕ) → All (IsWithinCount m) spans → sum_by length (lists_to spans number m) ≡ total_held spans
 listed_is [] number m h = none_listed number m
 listed_is (s ∷ spans) number m h =
     let first = h 0 s (omega arith) in
@@ -88,7 +88,7 @@ pub count_of_lists : (spans : List Span) (m : ℕ) → length (lists_to spans 0 
 count_of_lists spans m = length-map-range_with_len (held_from spans 0) 0 m
 
 -- spans that end at 0 hold nothing
-pub flat_hold_none : (spans : List Span) → All (λ s. s.end ≡ 0) spans → held_by spans ≡ 0
+pub flat_hold_none : (spans : List Span) → All (λ s. s.end ≡ 0) spans → total_held spans ≡ 0
 flat_hold_none spans h = let few = sum_by-le (λ (s : Span). s.end - s.first) 0 spans (λ k d less. let e = h k d less in omega (arith, e)) in omega (arith, few)
 
 -- the lists of stretches are those of lines

@@ -7,7 +7,7 @@ use Rattle.std.proofs.lemmas.Option.{slice_get_cases}
 use Rattle.lists_and_answers.specs.Options.{◌>>=◌}
 use Rattle.geotransform.specs.declared.types.Size.{Size}
 use Rattle.vrt_profile.specs.Values.{SourceValue}
-use Rattle.vrt_profile.specs.Value.{given_of, last_given, value_of}
+use Rattle.vrt_profile.specs.Value.{given_of, last_given, source_value}
 use Rattle.mosaic_sources.specs.Rows.{covering_lines}
 use Rattle.mosaic_sources.proofs.OfLines.{unlisted_none}
 
@@ -26,7 +26,7 @@ module _ (sources : List SourceValue) (mosaic : Size) (sizes : SourceValue → S
       let s = h.0 in
       let rest = drop (m + 1) sources in
       let here : drop m sources ≡ s ∷ rest = drop_more sources m s less ∙ ap (λ (t : SourceValue). t ∷ rest) h.3 in
-      let nothing : given s ≡ None = ap (λ o. o >>= λ place. value_of s (pixels s place.0 place.1)) (unlisted_none sources s m mosaic (sizes s) x y h.2 other) in
+      let nothing : given s ≡ None = ap (λ o. o >>= λ place. source_value s (pixels s place.0 place.1)) (unlisted_none sources s m mosaic (sizes s) x y h.2 other) in
       ap (λ (l : List SourceValue). last_given given l) here
       ∙ ap (λ (o : Option ℤ). option_or (last_given given rest) o) nothing
       ∙ or_nothing (last_given given rest))

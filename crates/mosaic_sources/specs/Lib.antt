@@ -2,4 +2,5 @@
 pub mod Pixels
 pub mod Axes
 pub mod Rows
+-- What private clauses, views and proofs speak of.
 pub mod Stretches

@@ -1,7 +1,7 @@
 -- Which sources cover a line of a mosaic, and what an index of them by lines is.
-use Rattle.std.specs.Prelude.{ℕ, Bool, ◌&&◌, suc, List, [], ◌∷◌, ◌≡◌, ◌≢◌, ◌⊎◌, ◌<◌, ◌≤◌, ◌+◌, ◌-◌, ◌*◌, ◌^◌, length}
-use Rattle.std.specs.Prelude.{nat_le, nat_lt, count_by, slice_index_or, if◌then◌else◌}
-use Rattle.std.specs.List.{All, Any, Contains, sum_by}
+use Rattle.std.specs.Prelude.{ℕ, Bool, ◌&&◌, suc, List, [], ◌∷◌, ◌≡◌, ◌≢◌, ◌<◌, ◌≤◌, ◌+◌, ◌-◌, ◌*◌, ◌^◌, length, nat_le}
+use Rattle.std.specs.Prelude.{nat_lt, count_by, slice_index_or, if◌then◌else◌}
+use Rattle.std.specs.List.{All, Contains, sum_by}
 use Rattle.std.specs.List.Sorted.{IsStrictlyIncreasing}
 use Rattle.geotransform.specs.declared.types.Size.{Size}
 use Rattle.vrt_profile.specs.Values.{SourceValue}
@@ -76,3 +76,7 @@ pub record IsIndexOf (sources : List SourceValue) (size : Size) (r : Rows) : Typ
   pub count : length r.lists ≡ length r.cuts + 1
   pub stretches : length r.lists ≤ 2 * length sources + 1
   pub none : size.h ≡ 0 → listed r ≡ 0
+
+-- whether a line is between a span's first line and its end
+abbrev pub is_in_span : Span → ℕ → Bool
+is_in_span s y = nat_le s.first y && nat_lt y s.end

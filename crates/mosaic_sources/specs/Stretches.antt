@@ -1,12 +1,8 @@
--- Spans of lines, and the stretches that they hold.
-use Rattle.std.specs.Prelude.{ℕ, Bool, ◌&&◌, List, ◌≡◌, ◌⊎◌, ◌<◌, ◌≤◌, ◌+◌, ◌-◌, length, nat_le, nat_lt}
+-- The stretches of lines that spans hold, and how lists of them are made.
+use Rattle.std.specs.Prelude.{ℕ, List, ◌≡◌, ◌⊎◌, ◌<◌, ◌≤◌, ◌+◌, ◌-◌, length}
 use Rattle.std.specs.List.{Any, Contains, sum_by}
-use Rattle.mosaic_sources.specs.Rows.{passing_from, list_by}
+use Rattle.mosaic_sources.specs.Rows.{passing_from, list_by, is_in_span}
 use Rattle.mosaic_sources.specs.declared.spans.Span.{Span}
-
--- whether a line is between a span's first line and its end
-abbrev pub is_in_span : Span → ℕ → Bool
-is_in_span s y = nat_le s.first y && nat_lt y s.end
 
 -- the numbers of the spans that hold a line, in order
 abbrev pub holding_lines : List Span → ℕ → List ℕ
@@ -32,8 +28,8 @@ pub record IsWithinCount (count : ℕ) (s : Span) : Type 0 where
   pub within : s.end ≤ count
 
 -- how much all spans hold together
-abbrev pub held_by : List Span → ℕ
-held_by spans = sum_by (λ s. s.end - s.first) spans
+abbrev pub total_held : List Span → ℕ
+total_held spans = sum_by (λ s. s.end - s.first) spans
 
 -- For each stretch between cuts, the numbers of the spans that hold its lines; none where there is no line.
 pub record AreListsOf (cuts : List ℕ) (height : ℕ) (spans : List Span) (kept : List (List ℕ)) : Type 0 where

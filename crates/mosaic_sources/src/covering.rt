@@ -5,8 +5,7 @@ ghost use Rattle.geotransform.specs.declared.types.Size.{Size};
 ghost use Rattle.vrt_profile.specs.Values.{million};
 ghost use Rattle.vrt_profile.specs.Cover.{centre, part_of, columns_of, lines_of, cover_of};
 ghost use Rattle.mosaic_sources.specs.Axes.{axis_limit};
-ghost use Rattle.mosaic_sources.specs.Rows.{covers_line};
-ghost use Rattle.mosaic_sources.specs.Stretches.{is_in_span};
+ghost use Rattle.mosaic_sources.specs.Rows.{covers_line, is_in_span};
 
 use crate::axis::Axis;
 use crate::spans::{Span, mosaic_part};

@@ -2,8 +2,8 @@
 ghost use Rattle.std.specs.Prelude.{◌≡◌, ℕ, ◌<◌, ◌≤◌, ◌+◌, ◌-◌, ◌*◌, IfOk, length, slice_index_or};
 ghost use Rattle.std.specs.List.{All, Contains};
 ghost use Rattle.std.specs.List.Sorted.{IsStrictlyIncreasing};
-ghost use Rattle.mosaic_sources.specs.Stretches.{holding_lines, held_by, HasEdges, IsWithinCount, is_in_span};
-ghost use Rattle.mosaic_sources.specs.Rows.{IsInner};
+ghost use Rattle.mosaic_sources.specs.Stretches.{holding_lines, total_held, HasEdges, IsWithinCount};
+ghost use Rattle.mosaic_sources.specs.Rows.{is_in_span, IsInner};
 ghost use Rattle.mosaic_sources.specs.Rows as rows;
 ghost use Rattle.vrt_profile.specs.Values.{most_sources};
 
@@ -102,7 +102,7 @@ pub fn total_of(stretches: &[Span], count: usize) -> u64
     requires few { length stretches.now ≤ most_sources }
     requires short { count ≤ 2 * most_sources + 1 }
     requires within { All (IsWithinCount count) stretches.now }
-    ensures total { result ≡ held_by stretches.now }
+    ensures total { result ≡ total_held stretches.now }
 {
     let mut total = 0;
     for span in stretches {

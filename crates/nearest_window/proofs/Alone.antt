@@ -17,8 +17,8 @@ use Rattle.band_blocks.specs.Keys.{IsKeyOf}
 use Rattle.nearest_window.specs.declared.picture.Picture.{Picture}
 use Rattle.nearest_window.specs.declared.picture_places.Places.{Places}
 use Rattle.nearest_window.specs.declared.members.Piece.{Piece}
-use Rattle.nearest_window.specs.Lanes.{pixel_at}
-use Rattle.nearest_window.specs.Right.{AreRecalled, IsPartBlock, IsRecalled}
+use Rattle.nearest_window.specs.BlockKeys.{first_pixel_of, IsPartBlock}
+use Rattle.nearest_window.specs.Right.{AreRecalled, IsRecalled}
 use Rattle.nearest_window.specs.Shown.{IsAreaOf, IsPartOf, IsPictureOf}
 use Rattle.nearest_window.specs.Taken.{place_at}
 use Rattle.nearest_window.proofs.Blocks.{same_item}
@@ -70,12 +70,12 @@ recalled_in told cat key d kind v at kind_is is =
 
 -- the block of a pixel whose sample is remembered
 pub recalled_block : (told : Option Files) (cat : List Dataset) (key : BlockKey) (d : Dataset) (rect : Rect) (kind : PixelType) (v : ℤ) (block : BlockView) → IsKeyOf cat key d → rect.w ≡ 1 → rect.h ≡ 1
-    → option_map (λ b. b.kind) (slice_get d.head.bands key.band) ≡ Some kind → IsRecalled told cat (pixel_at key rect) v → block ≡ block_view kind (v ∷ []) → IsPartBlock told cat key rect block
+    → option_map (λ b. b.kind) (slice_get d.head.bands key.band) ≡ Some kind → IsRecalled told cat (first_pixel_of key rect) v → block ≡ block_view kind (v ∷ []) → IsPartBlock told cat key rect block
 recalled_block told cat key d rect kind v block key_of narrow low kind_is is made =
-    pixel_block told cat key d rect kind v block key_of narrow low kind_is (recalled_in told cat (pixel_at key rect) d kind v key_of.at kind_is is) is.content made
+    pixel_block told cat key d rect kind v block key_of narrow low kind_is (recalled_in told cat (first_pixel_of key rect) d kind v key_of.at kind_is is) is.content made
 
 -- the sample of a block of one pixel may be remembered
-pub part_recalled : (told : Option Files) (cat : List Dataset) (key : BlockKey) (rect : Rect) (block : BlockView) → rect.w ≡ 1 → rect.h ≡ 1 → IsPartBlock told cat key rect block → IsRecalled told cat (pixel_at key rect) (slice_index_or block.samples 0 (pos 0))
+pub part_recalled : (told : Option Files) (cat : List Dataset) (key : BlockKey) (rect : Rect) (block : BlockView) → rect.w ≡ 1 → rect.h ≡ 1 → IsPartBlock told cat key rect block → IsRecalled told cat (first_pixel_of key rect) (slice_index_or block.samples 0 (pos 0))
 part_recalled told cat key rect block narrow low is =
     let product : rect.w * rect.h ≡ 1 * rect.h = ap (λ n. n * rect.h) narrow in
     let count = is.shape.count in
@@ -90,7 +90,7 @@ part_recalled told cat key rect block narrow low is =
 
 -- samples stay right where that of such a block is put in
 pub are_recalled_put : (told : Option Files) (cat : List Dataset) (key : BlockKey) (rect : Rect) (block : BlockView) (old new : List (PixelKey × ℤ)) → rect.w ≡ 1 → rect.h ≡ 1 → IsPartBlock told cat key rect block
-    → ((k : PixelKey) → (v : ℤ) → Contains new (k, v) → Contains old (k, v) ⊎ ((k ≡ pixel_at key rect) × (v ≡ slice_index_or block.samples 0 (pos 0))))
+    → ((k : PixelKey) → (v : ℤ) → Contains new (k, v) → Contains old (k, v) ⊎ ((k ≡ first_pixel_of key rect) × (v ≡ slice_index_or block.samples 0 (pos 0))))
     → AreRecalled told cat old → AreRecalled told cat new
 are_recalled_put told cat key rect block old new narrow low is kept right k v there = elim (kept k v there) [
   | inl was ↦ right k v was

@@ -10,13 +10,14 @@ use Rattle.catalog.specs.Dataset.{DatasetHead}
 use Rattle.catalog.specs.Drivers.{Dataset, document_of}
 use Rattle.band_blocks.specs.declared.key.BlockKey.{BlockKey}
 use Rattle.nearest_window.specs.declared.indexes.Kept.{Kept}
-use Rattle.nearest_window.specs.Indexes.{all_listed, is_of, kept_behind, listed_of, without_index}
-use Rattle.nearest_window.specs.Right.{IsIndexIn, IsMosaicKey}
+use Rattle.nearest_window.specs.Indexes.{all_listed, is_kept_for, kept_behind, listed_of, without_index}
+use Rattle.nearest_window.specs.Right.{IsIndexIn}
+use Rattle.nearest_window.specs.BlockKeys.{IsMosaicKey}
 
-pub of_dataset : (kept : Kept) (dataset band : ℕ) → is_of kept dataset band ≡ true → kept.dataset ≡ dataset
+pub of_dataset : (kept : Kept) (dataset band : ℕ) → is_kept_for kept dataset band ≡ true → kept.dataset ≡ dataset
 of_dataset kept dataset band h = grind (arith, nat_tests)
 
-pub of_band : (kept : Kept) (dataset band : ℕ) → is_of kept dataset band ≡ true → kept.band ≡ band
+pub of_band : (kept : Kept) (dataset band : ℕ) → is_kept_for kept dataset band ≡ true → kept.band ≡ band
 of_band kept dataset band h = grind (arith, nat_tests)
 
 pub head_is : (cat : List Dataset) (id : ℕ) (d : Dataset) (h : DatasetHead) → slice_get cat id ≡ Some d → option_map (λ (d : Dataset). d.head) (slice_get cat id) ≡ Some h → h ≡ d.head
@@ -24,7 +25,7 @@ head_is cat id d h at is = let e : option_map (λ (d : Dataset). d.head) (Some d
 
 module _ (cat : List Dataset) (key : BlockKey) (band : BandValue) (mosaic : IsMosaicKey cat key band) where
   -- the index of a band that is kept is the band's
-  pub kept_index : (kept : Kept) (d : Dataset) → slice_get cat key.dataset ≡ Some d → is_of kept key.dataset key.band ≡ true → IsIndexIn cat kept → IfSome kept.index (IsIndexOf band.sources d.head.size)
+  pub kept_index : (kept : Kept) (d : Dataset) → slice_get cat key.dataset ≡ Some d → is_kept_for kept key.dataset key.band ≡ true → IsIndexIn cat kept → IfSome kept.index (IsIndexOf band.sources d.head.size)
   kept_index kept d at same right =
       let mine : slice_get cat key.dataset ≡ Some right.dataset = ap (slice_get cat) (sym (of_dataset kept key.dataset key.band same)) ∙ right.at in
       let dataset : right.dataset ≡ d = cc in

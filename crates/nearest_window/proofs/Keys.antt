@@ -1,8 +1,10 @@
 -- Keys that are the same, and the entries of a pool after a change.
 use Rattle.std.proofs.Common.{◌≡◌, ℕ, ◌+◌, ◌-◌, ◌≤◌, ◌<◌, List, [], ◌∷◌, Option, Some, None, Bool, true, false, refl, sym, subst, inl, inr, length, take, arith}
+use Rattle.std.proofs.Common.{Result, Ok, Err, OnOk}
 use Rattle.std.specs.Prelude.{◌&&◌, ⊤, is_some}
 use Rattle.std.specs.Map.{lookup_entry, remove_entry}
 use Rattle.std.specs.Option.{option_map_or, option_or}
+use Rattle.std.specs.Option.{IsSomeAnd}
 use Rattle.std.proofs.lemmas.Bool.{eqb-true}
 use Rattle.std.proofs.lemmas.List.{length-take}
 use Rattle.lru.specs.LruCache.{lru_cache}
@@ -13,11 +15,10 @@ use Rattle.band_blocks.specs.Keys.{same_key}
 use Rattle.outside.specs.Outside.{Files}
 use Rattle.block_cache.specs.declared.pool.Entry.{Entry}
 use Rattle.block_cache.specs.Entries.{moved_to_front, admitted, held_at, pool_view}
-use Rattle.std.proofs.Common.{Result, Ok, Err, OnOk}
-use Rattle.std.specs.Option.{IsSomeAnd}
 use Rattle.std.proofs.lemmas.Bool.Decides.{nat_tests}
 use Rattle.band_blocks.specs.Contents.{IsBlock}
-use Rattle.nearest_window.specs.Lanes.{IsHeldWith, IsKept, LaneView, lane_view}
+use Rattle.nearest_window.specs.Lanes.{LaneView, lane_view}
+use Rattle.nearest_window.specs.HeldBlocks.{IsHeldWith, IsKept}
 use Rattle.nearest_window.specs.Right.{AreBlocks}
 
 both_true : (a b : Bool) → (a && b) ≡ true → (a ≡ true) × (b ≡ true)

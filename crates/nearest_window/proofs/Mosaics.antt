@@ -30,7 +30,7 @@ use Rattle.catalog.proofs.PixelLaws.{mosaic_is_of_its_members}
 use Rattle.band_blocks.specs.declared.key.BlockKey.{BlockKey}
 use Rattle.band_blocks.specs.Blocks.{BlockView}
 use Rattle.band_blocks.specs.Contents.{IsBlock}
-use Rattle.nearest_window.specs.Right.{IsPartBlock, IsMosaicKey}
+use Rattle.nearest_window.specs.BlockKeys.{IsPartBlock, IsMosaicKey}
 use Rattle.nearest_window.specs.Canvases.{source_given}
 use Rattle.nearest_window.proofs.Canvases.{in_itself}
 

@@ -24,12 +24,14 @@ use Rattle.nearest_window.specs.declared.taking.Taking.TheVariants as takings
 use Rattle.nearest_window.specs.declared.window.Window.{Window}
 use Rattle.nearest_window.specs.Painted.{IsPainted, IsFilled, in_columns}
 use Rattle.nearest_window.specs.Pictures.{from_block}
-use Rattle.nearest_window.specs.Lanes.{IsUsed, LaneView}
+use Rattle.nearest_window.specs.Lanes.{LaneView}
+use Rattle.nearest_window.specs.HeldBlocks.{IsUsed}
 use Rattle.nearest_window.specs.Right.{AreBlocks}
 use Rattle.vrt_profile.specs.Values.{SourceValue}
 use Rattle.mosaic_sources.specs.Pixels.{IsPixelOf}
 use Rattle.mosaic_sources.proofs.Following.{is_pixel_of}
-use Rattle.nearest_window.specs.Shown.{IsPictureOf, IsInBand, IsPartOf, IsTyped, AreTyped, ShowsWindow, TakesBand}
+use Rattle.nearest_window.specs.Shown.{IsPictureOf, IsPartOf, IsTyped, AreTyped, ShowsWindow, TakesBand}
+use Rattle.nearest_window.specs.Windows.{IsInBand}
 use Rattle.nearest_window.specs.Taken.{place_at, taken_by}
 use Rattle.nearest_window.proofs.Filled.{filled_by, filled_none, filled_columns, filled_rows, all_of}
 use Rattle.nearest_window.proofs.Keys.{is_block_held}

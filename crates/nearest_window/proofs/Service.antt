@@ -17,8 +17,10 @@ use Rattle.band_blocks.specs.declared.fault.LoadFault.TheVariants.{FolderFault, 
 use Rattle.block_cache.specs.declared.pool.Entry.{Entry}
 use Rattle.block_cache.specs.Entries.{PoolView, moved_to_front, admitted, held_at, IsPool, pool_view}
 use Rattle.nearest_window.specs.declared.indexes.Kept.{Kept}
-use Rattle.nearest_window.specs.Right.{AreBlocks, AreRecalled, IsAnswered, IsFit, IsIndexIn, IsReady, IsRight, LaneState, lane_state, Serves, slack_of, state_of, TellsChangeIn}
-use Rattle.nearest_window.specs.Lanes.{IsKept, IsUsed, LaneView, lane_view}
+use Rattle.nearest_window.specs.Right.{AreBlocks, AreRecalled, IsIndexIn, IsReady, IsRight, slack_of, TellsChangeIn}
+use Rattle.nearest_window.specs.Serving.{IsAnswered, IsFit, LaneState, lane_state, Serves, state_of}
+use Rattle.nearest_window.specs.Lanes.{LaneView, lane_view}
+use Rattle.nearest_window.specs.HeldBlocks.{IsKept, IsUsed}
 use Rattle.outside.specs.declared.folder.Folder.{Ghosts}
 use Rattle.nearest_window.proofs.Keys.{length_moved, are_blocks_moved, are_blocks_admitted, length_admitted, length_admitted_new}
 use Rattle.nearest_window.proofs.Counting.{room_for_one}

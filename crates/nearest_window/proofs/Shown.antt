@@ -20,7 +20,8 @@ use Rattle.nearest_window.specs.declared.members.Piece.{Piece}
 use Rattle.nearest_window.specs.Painted.{IsPainted, given_between, in_columns}
 use Rattle.nearest_window.specs.Pictures.{from_block}
 use Rattle.band_blocks.specs.Contents.{IsBlock}
-use Rattle.nearest_window.specs.Lanes.{IsHeldWith, IsUsed, LaneView}
+use Rattle.nearest_window.specs.Lanes.{LaneView}
+use Rattle.nearest_window.specs.HeldBlocks.{IsHeldWith, IsUsed}
 use Rattle.nearest_window.specs.Right.{AreBlocks}
 use Rattle.nearest_window.specs.Shown.{IsPartOf, IsShown, shown}
 use Rattle.nearest_window.specs.Taken.{place_at, taken_by}

@@ -14,7 +14,7 @@ use Rattle.geotransform.specs.Pixels.{IsInside}
 use Rattle.outside.specs.Outside.{Files}
 use Rattle.vrt_profile.specs.Values.{SourceValue, BandValue, IsBand}
 use Rattle.vrt_profile.specs.Cover.{axis_at, columns_of, lines_of}
-use Rattle.vrt_profile.specs.Value.{value_of, given_of, last_given}
+use Rattle.vrt_profile.specs.Value.{source_value, given_of, last_given}
 use Rattle.catalog.specs.Drivers.{Dataset}
 use Rattle.catalog.specs.Pixels.{pixel_of, member_size, member_pixel}
 use Rattle.catalog.specs.Places.{row_by_row}
@@ -26,7 +26,7 @@ use Rattle.nearest_window.specs.declared.canvas.Canvas.{Canvas}
 use Rattle.nearest_window.specs.declared.taking.Taking.{Taking}
 use Rattle.nearest_window.specs.Canvases.{stands, stands_at, source_given, IsSame, IsTaken, IsUnasked, IsAsked, IsSourceTaken, AreTaken, IsPackedOf}
 use Rattle.nearest_window.specs.Painted.{IsPainted, in_columns}
-use Rattle.nearest_window.specs.Right.{IsPartBlock, IsMosaicKey}
+use Rattle.nearest_window.specs.BlockKeys.{IsPartBlock, IsMosaicKey}
 use Rattle.nearest_window.specs.Shown.{shown, IsShown}
 use Rattle.nearest_window.specs.Taken.{place_at, taken_by}
 use Rattle.nearest_window.proofs.Canvases.{same_under}
@@ -118,7 +118,7 @@ not_wanted b P is h = elim h [
 -- what a source gives is what is made of the pixels that it was asked for
 
 module _ (told : Option Files) (cat : List Dataset) (key : BlockKey) (s : SourceValue) (c : Canvas) (a : Asked) (asked : IsAsked cat key s c a) (d : Dataset) (at : slice_get cat key.dataset ≡ Some d)
-    (taking : Taking) (makes : (pixel : ℤ) → taken_by taking pixel ≡ value_of s pixel) (zeros pixels : List ℤ) (size : length zeros ≡ a.part.w * a.part.h) where
+    (taking : Taking) (makes : (pixel : ℤ) → taken_by taking pixel ≡ source_value s pixel) (zeros pixels : List ℤ) (size : length zeros ≡ a.part.w * a.part.h) where
   abbrev dataset_size : Size
   dataset_size = member_size cat d s
 
@@ -139,7 +139,7 @@ module _ (told : Option Files) (cat : List Dataset) (key : BlockKey) (s : Source
       ∙ ap (λ n. Some (pixel_of m cat a.picture.dataset a.picture.band (place_at a.picture.columns n) (place_at a.picture.lines (0 + j)))) column
       ∙ ap (λ n. Some (pixel_of m cat a.picture.dataset a.picture.band (place_at a.picture.columns i) (place_at a.picture.lines n))) line)
 
-  given_there : (m : Files) (x y : ℕ) → IsInside a.part x y → given_of s d.head.size dataset_size (member_pixel m cat d s) x y ≡ value_of s (pixel_of m cat a.picture.dataset a.picture.band (place_at a.picture.columns (x - a.part.x)) (place_at a.picture.lines (y - a.part.y)))
+  given_there : (m : Files) (x y : ℕ) → IsInside a.part x y → given_of s d.head.size dataset_size (member_pixel m cat d s) x y ≡ source_value s (pixel_of m cat a.picture.dataset a.picture.band (place_at a.picture.columns (x - a.part.x)) (place_at a.picture.lines (y - a.part.y)))
   given_there m x y p =
       let l = p.left in let r = p.right in let t = p.top in let b = p.bottom in
       let across : a.part.x + (x - a.part.x) ≡ x = omega arith in
@@ -148,7 +148,7 @@ module _ (told : Option Files) (cat : List Dataset) (key : BlockKey) (s : Source
       let line = subst (λ n. axis_at (lines_of s d.head.size dataset_size) dataset_size.h n ≡ Some (place_at a.picture.lines (y - a.part.y))) down (asked.down d at (y - a.part.y) (omega arith)) in
       pixel_given s d.head.size dataset_size x y (member_pixel m cat d s) (place_at a.picture.columns (x - a.part.x)) (place_at a.picture.lines (y - a.part.y))
       (seen_there s d.head.size dataset_size x y (place_at a.picture.columns (x - a.part.x)) (place_at a.picture.lines (y - a.part.y)) column line)
-      ∙ ap (value_of s) (asked.pixels m d at (place_at a.picture.columns (x - a.part.x)) (place_at a.picture.lines (y - a.part.y)))
+      ∙ ap (source_value s) (asked.pixels m d at (place_at a.picture.columns (x - a.part.x)) (place_at a.picture.lines (y - a.part.y)))
 
   in_or_out : (x y : ℕ) → IsInside a.part x y ⊎ (IsInside a.part x y → ⊥)
   in_or_out x y = elim (cases_lt x a.part.x) [

@@ -10,8 +10,8 @@ abbrev pub most_indexed : ℕ
 most_indexed = 256
 
 -- whether it is this band
-abbrev pub is_of : Kept → ℕ → ℕ → Bool
-is_of kept dataset band = nat_eq kept.dataset dataset && nat_eq kept.band band
+abbrev pub is_kept_for : Kept → ℕ → ℕ → Bool
+is_kept_for kept dataset band = nat_eq kept.dataset dataset && nat_eq kept.band band
 
 -- how many numbers the lists of a band's index have together
 abbrev pub listed_of : Kept → ℕ

@@ -2,7 +2,7 @@
 ghost use Rattle.std.specs.Prelude.{◌≡◌, ◌++◌, ◌≤◌, [], ◌∷◌, IfSome, None, OnErr, OnOk, false, length, nat_lt, true};
 ghost use Rattle.std.specs.List.{All, Contains};
 ghost use Rattle.mosaic_sources.specs.Rows.{most_listed};
-ghost use Rattle.nearest_window.specs.Indexes.{is_of, kept_behind, listed_of, most_indexed};
+ghost use Rattle.nearest_window.specs.Indexes.{is_kept_for, kept_behind, listed_of, most_indexed};
 
 use mosaic_sources::RowIndex;
 use std::alloc::{AllocError, Global};
@@ -54,8 +54,8 @@ fn listed_of(kept: &Kept) -> u32
 }
 
 // Whether it is this band.
-fn is_of(kept: &Kept, dataset: u32, band: u32) -> bool
-    ensures same { result ≡ is_of kept.now dataset band }
+fn is_kept_for(kept: &Kept, dataset: u32, band: u32) -> bool
+    ensures same { result ≡ is_kept_for kept.now dataset band }
 {
     kept.dataset == dataset && kept.band == band
 }
@@ -63,11 +63,11 @@ fn is_of(kept: &Kept, dataset: u32, band: u32) -> bool
 // The first of these that is this band.
 fn find_in(bands: &[Kept], dataset: u32, band: u32) -> Option<&Kept>
     ensures found { IfSome result (λ k. Contains bands.now k.now) }
-    ensures same { IfSome result (λ k. is_of k.now dataset band ≡ true) }
-    ensures none { result ≡ None → All (λ k. is_of k dataset band ≡ false) bands.now }
+    ensures same { IfSome result (λ k. is_kept_for k.now dataset band ≡ true) }
+    ensures none { result ≡ None → All (λ k. is_kept_for k dataset band ≡ false) bands.now }
 {
     for kept in bands {
-        if is_of(kept, dataset, band) {
+        if is_kept_for(kept, dataset, band) {
             return Some(kept);
         }
     }
@@ -95,8 +95,8 @@ impl Indexes {
     /// A band that was indexed. `None` exactly where it wasn't.
     pub fn find(&self, dataset: u32, band: u32) -> Option<&Kept>
         ensures found { IfSome result (λ k. Contains self.now k.now) }
-        ensures same { IfSome result (λ k. is_of k.now dataset band ≡ true) }
-        ensures none { result ≡ None → All (λ k. is_of k dataset band ≡ false) self.now }
+        ensures same { IfSome result (λ k. is_kept_for k.now dataset band ≡ true) }
+        ensures none { result ≡ None → All (λ k. is_kept_for k dataset band ≡ false) self.now }
     {
         find_in(self.kept.as_slice(), dataset, band)
     }

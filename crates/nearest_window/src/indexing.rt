@@ -3,7 +3,8 @@ ghost use Rattle.std.specs.Prelude.{◌≡◌, ◌≤◌, IfOk, Some, length, sl
 ghost use Rattle.std.specs.List.{All};
 ghost use Rattle.catalog.specs.Drivers.{Dataset};
 ghost use Rattle.catalog.specs.Places.{IsWithin};
-ghost use Rattle.nearest_window.specs.Right.{IsIndexIn, IsMosaicKey};
+ghost use Rattle.nearest_window.specs.Right.{IsIndexIn};
+ghost use Rattle.nearest_window.specs.BlockKeys.{IsMosaicKey};
 ghost use Rattle.nearest_window.specs.Wanted.{IsWanted, numbers_of};
 ghost use Rattle.vrt_profile.specs.Values.{most_sources};
 

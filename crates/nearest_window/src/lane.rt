@@ -9,12 +9,13 @@ ghost use Rattle.catalog.specs.Places.{IsWithin};
 ghost use Rattle.band_blocks.specs.Keys.{IsKey};
 ghost use Rattle.band_blocks.specs.Samples.{IsDirect};
 ghost use Rattle.block_cache.specs.Entries.{pool_view, entry_of, held_at, moved_to_front, admitted, IsPool};
-ghost use Rattle.nearest_window.specs.Lanes.{IsHeldWith, IsKept, IsUsed, LaneView, lane_view, held_count, pixel_at};
-ghost use Rattle.nearest_window.specs.Lanes.{most_made, room_of};
+ghost use Rattle.nearest_window.specs.Lanes.{LaneView, lane_view, held_count, most_made, room_of};
+ghost use Rattle.nearest_window.specs.HeldBlocks.{IsHeldWith, IsKept, IsUsed};
+ghost use Rattle.nearest_window.specs.BlockKeys.{first_pixel_of, IsPartBlock, IsFileKey, IsMosaicKey};
 ghost use Rattle.nearest_window.specs.Painted.{IsPainted, in_columns};
 ghost use Rattle.nearest_window.specs.Pictures.{IsPicture, from_block};
-ghost use Rattle.nearest_window.specs.Right.{AreRecalled, IsAnswered, IsFit, IsFresh, IsIndexIn, IsPartBlock};
-ghost use Rattle.nearest_window.specs.Right.{IsFileKey, IsMosaicKey, IsReady, IsRightLane, Serves, state_of};
+ghost use Rattle.nearest_window.specs.Right.{AreRecalled, IsFresh, IsIndexIn, IsReady, IsRightLane};
+ghost use Rattle.nearest_window.specs.Serving.{IsAnswered, IsFit, Serves, state_of};
 ghost use Rattle.nearest_window.specs.Shown.{IsAreaOf, IsPictureOf, IsPartOf, IsLonePart};
 ghost use Rattle.nearest_window.specs.Taken.{place_at};
 ghost use Rattle.nearest_window.specs.Wanted.{IsWanted, numbers_of};
@@ -108,8 +109,8 @@ fn paint_from(pool: &mut Pool, picture: &Picture, piece: Piece, out: &mut [Sampl
 }
 
 // The first pixel of a rectangle of the band that a block is of.
-fn pixel_at(key: BlockKey, rect: Rect) -> PixelKey
-    ensures pixel { result ≡ pixel_at key rect }
+fn first_pixel_of(key: BlockKey, rect: Rect) -> PixelKey
+    ensures pixel { result ≡ first_pixel_of key rect }
 {
     PixelKey {
         dataset: key.dataset,
@@ -469,7 +470,7 @@ impl<F: Folder> Lane<F> {
         if !self.remembers(rect) {
             return None;
         }
-        let sample = self.recalled.find(pixel_at(key, rect))?;
+        let sample = self.recalled.find(first_pixel_of(key, rect))?;
         match Block::pack(alloc, band_type_of(cat, key), &[sample]) {
             Ok(block) => Some(block),
             Err(_) => None,
@@ -487,7 +488,7 @@ impl<F: Folder> Lane<F> {
         if !self.remembers(rect) {
             return;
         }
-        let _put = self.recalled.put(pixel_at(key, rect), block.get(0));
+        let _put = self.recalled.put(first_pixel_of(key, rect), block.get(0));
     }
 
     // The sources of a mosaic's band that are asked for a rectangle of it. It is refused where memory is.

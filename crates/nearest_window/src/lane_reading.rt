@@ -5,8 +5,9 @@ ghost use Rattle.catalog.specs.Drivers.{Dataset};
 ghost use Rattle.catalog.specs.Places.{IsWithin};
 ghost use Rattle.band_blocks.specs.Keys.{IsKey};
 ghost use Rattle.nearest_window.specs.Canvases.{IsCanvas, IsSourceTaken};
-ghost use Rattle.nearest_window.specs.Lanes.{IsHeldWith};
-ghost use Rattle.nearest_window.specs.Right.{IsAnswered, IsFit, IsPartBlock, IsMosaicKey};
+ghost use Rattle.nearest_window.specs.HeldBlocks.{IsHeldWith};
+ghost use Rattle.nearest_window.specs.Serving.{IsAnswered, IsFit};
+ghost use Rattle.nearest_window.specs.BlockKeys.{IsPartBlock, IsMosaicKey};
 ghost use Rattle.nearest_window.specs.Shown.{AreTyped, IsAreaOf, IsPictureOf, IsShown, IsTyped, IsBandOf, IsPartOf};
 ghost use Rattle.nearest_window.specs.Shown.{IsSourceOf};
 

@@ -11,7 +11,8 @@ ghost use Rattle.band_blocks.specs.Contents.{most_calls};
 ghost use Rattle.band_blocks.specs.Open.{IsUnchanged};
 ghost use Rattle.nearest_window.specs.Lanes.{held_count, room_of};
 ghost use Rattle.nearest_window.specs.Right.{IsReady, slack_of, TellsChangeIn};
-ghost use Rattle.nearest_window.specs.Shown.{IsInBand, IsWindow, IsPictureOf, ShowsWindow};
+ghost use Rattle.nearest_window.specs.Shown.{IsPictureOf, ShowsWindow};
+ghost use Rattle.nearest_window.specs.Windows.{IsInBand, IsWindow};
 
 use crate::Lane;
 use crate::picture::Picture;

@@ -2,12 +2,12 @@
 use Rattle.std.proofs.Common.{◌≡◌, ◌<◌, sym, ℕ, true, List, length, Some, Result, Ok, Err, OnOk, true≢false}
 use Rattle.std.specs.Result.{is_ok}
 use Rattle.catalog.specs.Drivers.{Dataset}
-use Rattle.catalog.specs.Walk.{number_of}
+use Rattle.catalog.specs.Walk.{dataset_number_in}
 use Rattle.catalog.proofs.Found.{found}
 use Rattle.nearest_window.proofs.Blocks.{known}
 
 -- the number of a name is one of the catalog's datasets
-pub number_known : (cat : List Dataset) (name : List ℕ) (id : ℕ) → number_of cat name ≡ Some id → id < length cat
+pub number_known : (cat : List Dataset) (name : List ℕ) (id : ℕ) → dataset_number_in cat name ≡ Some id → id < length cat
 number_known cat name id is =
     let there = found cat name id is in
     known cat id there.dataset there.at

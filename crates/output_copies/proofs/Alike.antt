@@ -9,7 +9,7 @@ use Rattle.interleaved_raw.specs.Raw.{sample_bytes}
 use Rattle.hgt_tiles.specs.Samples.{row_bytes}
 use Rattle.dted_records.specs.Written.{record_bytes}
 use Rattle.write_back.specs.declared.forms.Writer.TheVariants.{Raw, Hgt, Dted}
-use Rattle.write_back.specs.Files.{band_by, column_by, line_by, raw_bytes, line_at, column_at, bytes_of, header_file, header_in, files_of, IsForm}
+use Rattle.write_back.specs.Files.{sample_band_by, column_by, line_by, raw_bytes, line_at, column_at, bytes_of, header_file, header_in, files_of, IsForm}
 use Rattle.write_back.specs.Grids.{front_of, lines_text}
 use Rattle.write_back.specs.View.{Output, Blocks, Rows, IsIn}
 
@@ -35,7 +35,7 @@ record IsPlace (h : Head) (k x y : ℕ) : Type 0 where
   line : y < h.size.h
 
 -- the place of a sample of a file, by its number
-sample_place : (l : Layout) (h : Head) (i : ℕ) → IsHead h → i < h.bands * h.size.h * h.size.w → IsPlace h (band_by l h i) (column_by l h i) (line_by l h i)
+sample_place : (l : Layout) (h : Head) (i : ℕ) → IsHead h → i < h.bands * h.size.h * h.size.w → IsPlace h (sample_band_by l h i) (column_by l h i) (line_by l h i)
 sample_place Bil h i is less = let w = is.width.0 in let t = is.height.0 in let b = is.bands.0 in record {
   band = mod_below (i / h.size.w) h.bands b;
   column = mod_below i h.size.w w;
@@ -55,11 +55,11 @@ sample_place Bsq h i is less = let w = is.width.0 in let t = is.height.0 in let 
 module _ (f g : ℕ → ℕ → ℕ → ℤ) where
   raw_same : (h : Head) → IsHead h → ((k x y : ℕ) → k < h.bands → x < h.size.w → y < h.size.h → f k x y ≡ g k x y) → raw_bytes h f ≡ raw_bytes h g
   raw_same h is same =
-      joined_same (λ i. sample_bytes h (f (band_by h.layout h i) (column_by h.layout h i) (line_by h.layout h i))) (λ i. sample_bytes h (g (band_by h.layout h i) (column_by h.layout h i) (line_by h.layout h i))) 0 (h.bands * h.size.h * h.size.w)
+      joined_same (λ i. sample_bytes h (f (sample_band_by h.layout h i) (column_by h.layout h i) (line_by h.layout h i))) (λ i. sample_bytes h (g (sample_band_by h.layout h i) (column_by h.layout h i) (line_by h.layout h i))) 0 (h.bands * h.size.h * h.size.w)
       (λ i low high.
       let less : i < h.bands * h.size.h * h.size.w = omega arith in
       let at = sample_place h.layout h i is less in
-      ap (sample_bytes h) (same (band_by h.layout h i) (column_by h.layout h i) (line_by h.layout h i) at.band at.column at.line))
+      ap (sample_bytes h) (same (sample_band_by h.layout h i) (column_by h.layout h i) (line_by h.layout h i) at.band at.column at.line))
 
   line_same : (w y : ℕ) → ((x : ℕ) → x < w → f 0 x y ≡ g 0 x y) → line_at f w y ≡ line_at g w y
   line_same w y same = map_same (λ x. f 0 x y) (λ x. g 0 x y) 0 w (λ x low high. same x (omega arith))

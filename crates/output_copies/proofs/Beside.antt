@@ -12,7 +12,8 @@ use Rattle.strip_copies.specs.declared.columns.Columns.{Columns}
 use Rattle.strip_copies.specs.declared.reading.Lines.{Lines}
 use Rattle.error_lines.specs.declared.faults.Fault.{Fault}
 use Rattle.output_copies.specs.Ahead.{MayBeRead}
-use Rattle.output_copies.specs.Copying.{IsFilled, MayEnd}
+use Rattle.output_copies.specs.Copying.{MayEnd}
+use Rattle.output_copies.specs.Filled.{IsFilled}
 use Rattle.output_copies.specs.Parts.{AreBehind, ArePart}
 use Rattle.output_copies.proofs.Copied.{filled_next}
 

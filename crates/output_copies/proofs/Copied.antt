@@ -17,11 +17,10 @@ use Rattle.write_back.specs.declared.forms.Writer.TheVariants.{Raw, Hgt, Dted}
 use Rattle.write_back.specs.Files.{target_files, IsTarget, IsWhole, IsWholeOn}
 use Rattle.write_back.specs.Overlay.{IsOverlaid}
 use Rattle.write_back.specs.Plans.{output_of}
-use Rattle.write_back.specs.View.{Output, Blocks, Rows, SheetView, TargetView, bands_of, columns_of, lines_after, rows_of, sheet_in, shown, AreWritable, IsIn, IsMetOn, IsNext, Meets, MeetsAll, Shows}
+use Rattle.write_back.specs.View.{Output, Blocks, Rows, SheetView, TargetView, bands_of, columns_of, lines_after, line_count_of, sheet_in, shown, AreWritable, IsIn, IsMetOn, IsNext, Meets, MeetsAll, Shows}
 use Rattle.write_back.proofs.Outputs.{has_size, sample_held}
-use Rattle.strip_copies.specs.Copies.{lines_rect}
-use Rattle.strip_copies.specs.Rows.{IsHeldIn}
-use Rattle.output_copies.specs.Copying.{AreMet, IsAtLine, IsCopied, IsFilled}
+use Rattle.strip_copies.specs.Copies.{lines_rect, IsHeldIn}
+use Rattle.output_copies.specs.Filled.{AreColumnsMet, IsAtLine, IsCopied, IsFilled}
 use Rattle.output_copies.specs.Steps.{files_by, raster_of}
 use Rattle.output_copies.proofs.Alike.{files_same}
 
@@ -57,7 +56,7 @@ copied_more : (want : ℕ → ℕ → ℕ → ℤ) (size : Size) (t u : TargetVi
 copied_more want size t u first end k samples some same wide over meets is copied =
     let at = lines_at (want k) size first end samples is in
     let place = λ (b x y : ℕ) (p : IsIn u.output b x y). subst (λ (o : Output). IsIn o b x y) (sym same) p in
-    let met : AreMet u = λ x column. meets.here (omega arith) x (omega arith) (omega arith) in
+    let met : AreColumnsMet u = λ x column. meets.here (omega arith) x (omega arith) (omega arith) in
     record {
       above = λ b x y p less. lines_kept (IsIn u.output) k (lines_rect size first end) samples want (shown t) (shown u) refl over at b x y p (λ e. less) (copied.above b x y (place b x y p) less);
       beside = λ b x y p less line. elim (cases_lt b k) [
@@ -90,7 +89,7 @@ module _ (told : Option Files) (cat : List Dataset) (id : ℕ) (p : Planned) (pl
   pub record MayCome (t : TargetView) (first end k : ℕ) : Type 0 where
     pub band : k < bands_of t.output
     pub across : 0 + p.size.w ≤ columns_of t.output
-    pub down : first + (end - first) ≤ rows_of t.output
+    pub down : first + (end - first) ≤ line_count_of t.output
     pub next : IsNext t.output t.lines (lines_rect p.size first end)
 
   pub may_come : (t : TargetView) (first end k : ℕ) → first < end → end ≤ p.size.h → k < length p.bands → IsFilled told cat id p t first end k → MayCome t first end k
@@ -98,7 +97,7 @@ module _ (told : Option Files) (cat : List Dataset) (id : ℕ) (p : Planned) (pl
       let size = has_size p t.output plan filled.output in
       let bands : bands_of t.output ≡ length p.bands = size.bands_are in
       let wide : columns_of t.output ≡ p.size.w = size.columns_are in
-      let tall : rows_of t.output ≡ p.size.h = size.lines_are in
+      let tall : line_count_of t.output ≡ p.size.h = size.lines_are in
       record {
         band = omega arith;
         across = omega arith;
@@ -215,7 +214,7 @@ module _ (told : Option Files) (cat : List Dataset) (id : ℕ) (p : Planned) (pl
       first_line (Blocks w) lines is = tt
       first_line (Rows g) lines is = is
 
-  whole_on : (o : Output) (s : SheetView) → rows_of o ≡ p.size.h → IsAtLine o s.lines p.size.h → ((x : ℕ) → x < columns_of o → IsMetOn o s x) → IsWholeOn o s
+  whole_on : (o : Output) (s : SheetView) → line_count_of o ≡ p.size.h → IsAtLine o s.lines p.size.h → ((x : ℕ) → x < columns_of o → IsMetOn o s x) → IsWholeOn o s
   whole_on (Blocks (Raw h)) s tall at met = tt
   whole_on (Blocks (Hgt side)) s tall at met = tt
   whole_on (Blocks (Dted c)) s tall at met = met
@@ -225,7 +224,7 @@ module _ (told : Option Files) (cat : List Dataset) (id : ℕ) (p : Planned) (pl
   pub filled_whole : (t : TargetView) (m : Files) (d : Dataset) → told ≡ Some m → slice_get cat id ≡ Some d → IsFilled told cat id p t p.size.h p.size.h 0 → IsWhole t × (target_files t ≡ files_by (output_of p) t.name (raster_of m d p))
   filled_whole t m d e f filled =
       let size = has_size p t.output plan filled.output in
-      let tall : rows_of t.output ≡ p.size.h = size.lines_are in
+      let tall : line_count_of t.output ≡ p.size.h = size.lines_are in
       let some : 0 < p.size.h = plan.size.some_lines in
       let copied = filled.copied m d e f in (
         whole_on t.output (sheet_in t) tall (filled.at refl) (copied.met some),

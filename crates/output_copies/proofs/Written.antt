@@ -11,7 +11,7 @@ use Rattle.translate_plan.specs.declared.options.Driver.TheVariants.{AaiGrid, Dt
 use Rattle.write_back.specs.Plans.{output_of}
 use Rattle.error_lines.specs.Progress.{progress}
 use Rattle.error_lines.specs.Steps.{Step, Publishes, publishes}
-use Rattle.output_copies.specs.Steps.{files_by, raster_of, unless_quiet, written, written_by}
+use Rattle.output_copies.specs.Steps.{files_by, raster_of, unless_quiet, written_files, written_by}
 
 -- the steps of an output of samples between the first text and the last
 abbrev pub samples_steps : Bool → Files → Dataset → Planned → List ℕ → List Step
@@ -30,9 +30,9 @@ module _ (m : Files) (d : Dataset) (p : Planned) (name : List ℕ) where
   by_driver Vrt other = absurd (other refl)
 
   -- files of samples, of every driver but that of mosaics
-  pub samples_middle : (quiet : Bool) → p.driver ≢ Vrt → samples_steps quiet m d p name ≡ unless_quiet quiet progress ++ publishes (written m d p name)
+  pub samples_middle : (quiet : Bool) → p.driver ≢ Vrt → samples_steps quiet m d p name ≡ unless_quiet quiet progress ++ publishes (written_files m d p name)
   samples_middle quiet other = ap (λ (files : List (List ℕ × List ℕ)). unless_quiet quiet progress ++ publishes files) (by_driver p.driver other)
 
   -- the document of a mosaic
-  pub document_middle : (quiet : Bool) → p.driver ≡ Vrt → document_steps quiet d p name ≡ unless_quiet quiet progress ++ publishes (written m d p name)
+  pub document_middle : (quiet : Bool) → p.driver ≡ Vrt → document_steps quiet d p name ≡ unless_quiet quiet progress ++ publishes (written_files m d p name)
   document_middle quiet mosaic = ap (λ (v : Driver). unless_quiet quiet progress ++ publishes (written_by v m d p name)) (sym mosaic)

@@ -11,7 +11,8 @@ use Rattle.strip_copies.specs.declared.columns.Columns.{Columns}
 use Rattle.strip_copies.specs.declared.reading.Lines.{Lines}
 use Rattle.strip_copies.specs.Copies.{IsRoomFor, IsTranslation}
 use Rattle.error_lines.specs.declared.faults.Fault.{Fault}
-use Rattle.output_copies.specs.Copying.{IsFilled, MayEnd, TellsChange}
+use Rattle.output_copies.specs.Copying.{MayEnd, TellsChange}
+use Rattle.output_copies.specs.Filled.{IsFilled}
 use Rattle.output_copies.specs.Parts.{ArePart, BeginsWith}
 
 module _ {F File Draft : Type 0} (calls : Ghosts F File Draft) (cat : List Dataset) (id : ℕ) (p : Planned)

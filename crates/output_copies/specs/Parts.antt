@@ -6,8 +6,7 @@ use Rattle.catalog.specs.Drivers.{Dataset}
 use Rattle.catalog.specs.Places.{row_by_row}
 use Rattle.translate_plan.specs.Plan.{Planned}
 use Rattle.strip_copies.specs.declared.reading.Lines.{Lines}
-use Rattle.strip_copies.specs.Copies.{lines_rect}
-use Rattle.strip_copies.specs.Rows.{IsHeldIn}
+use Rattle.strip_copies.specs.Copies.{lines_rect, IsHeldIn}
 use Rattle.output_copies.specs.Steps.{raster_of}
 
 -- Samples of lines of a band that were read, row by row: the output can hold each, and over a folder that tells its

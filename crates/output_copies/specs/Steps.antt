@@ -44,11 +44,11 @@ abbrev pub written_by : Driver → Files → Dataset → Planned → List ℕ �
 written_by Vrt m d p name = (name, spelled (document_by p name d.head)) ∷ []
 written_by _ m d p name = files_by (output_of p) name (raster_of m d p)
 
-abbrev pub written : Files → Dataset → Planned → List ℕ → List (List ℕ × List ℕ)
-written m d p name = written_by p.driver m d p name
+abbrev pub written_files : Files → Dataset → Planned → List ℕ → List (List ℕ × List ℕ)
+written_files m d p name = written_by p.driver m d p name
 
 -- the steps of a translation of a dataset by a plan into files under a name
 unfoldable pub translation_steps : Bool → Files → Dataset → Planned → List ℕ → List Step
 translation_steps quiet m d p name =
     unless_quiet quiet (size_line d.head.size) ++ (unless_quiet quiet progress ++
-    (publishes (written m d p name) ++ unless_quiet quiet progress_end))
+    (publishes (written_files m d p name) ++ unless_quiet quiet progress_end))

@@ -9,12 +9,13 @@ ghost use Rattle.lane_teams.specs.Ready.{AreLanesReady};
 ghost use Rattle.strip_copies.specs.Copies.{IsRoomFor, IsTranslation};
 ghost use Rattle.error_lines.specs.Progress.{progress, progress_len};
 ghost use Rattle.output_copies.specs.Ahead.{MayBeRead, MayBeWritten, WereRead, WereWritten};
-ghost use Rattle.output_copies.specs.Copying.{spoken, IsFilled, MayEnd, Tells, TellsChange};
+ghost use Rattle.output_copies.specs.Copying.{spoken, MayEnd, TellsChange};
+ghost use Rattle.output_copies.specs.Filled.{IsFilled, Tells};
 ghost use Rattle.output_copies.specs.Parts.{AreBehind, ArePart, BeginsWith};
 
+use crate::band_lines::{area, read_part, write_part};
 use crate::calls::at_once;
 use crate::copying::Copier;
-use crate::parts::{area, read_part, write_part};
 use crate::progress::{Share, tell};
 use error_lines::Fault;
 use geotransform::Sample;

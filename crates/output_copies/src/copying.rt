@@ -5,10 +5,11 @@ ghost use Rattle.outside.specs.Streams.{Gets, GetsPart};
 ghost use Rattle.lane_teams.specs.Ready.{AreLanesReady};
 ghost use Rattle.strip_copies.specs.Copies.{IsRoomFor, IsTranslation};
 ghost use Rattle.error_lines.specs.Progress.{progress};
-ghost use Rattle.output_copies.specs.Copying.{spoken, IsFilled, MayEnd, TellsChange};
+ghost use Rattle.output_copies.specs.Copying.{spoken, MayEnd, TellsChange};
+ghost use Rattle.output_copies.specs.Filled.{IsFilled};
 ghost use Rattle.output_copies.specs.Parts.{ArePart};
 
-use crate::parts::{area, read_part, write_part};
+use crate::band_lines::{area, read_part, write_part};
 use crate::progress::{Share, tell};
 use error_lines::Fault;
 use geotransform::Sample;

@@ -3,11 +3,11 @@
 #![tactic(auto)]
 
 mod ahead;
+mod band_lines;
 mod calls;
 mod copying;
 mod documents;
 mod output;
-mod parts;
 mod progress;
 mod texts;
 mod writing;

@@ -14,15 +14,16 @@ ghost use Rattle.strip_copies.specs.Heights.{most_samples};
 ghost use Rattle.error_lines.specs.Faults.{Differs, HasCauses, IsOfReading, IsOutside};
 ghost use Rattle.error_lines.specs.Progress.{progress};
 ghost use Rattle.error_lines.specs.Steps.{all_done, publishes, Goes};
-ghost use Rattle.output_copies.specs.Copying.{spoken, IsChanged, IsFilled, MayEnd, Puts, TellsChange};
+ghost use Rattle.output_copies.specs.Copying.{spoken, IsChanged, MayEnd, Puts, TellsChange};
+ghost use Rattle.output_copies.specs.Filled.{IsFilled};
 ghost use Rattle.output_copies.specs.Steps.{files_by, raster_of, translation_steps, translation_text, unless_quiet};
-ghost use Rattle.output_copies.specs.Steps.{written};
+ghost use Rattle.output_copies.specs.Steps.{written_files};
 ghost use Rattle.band_blocks.specs.Blocks.{most_blocks};
 
 use crate::ahead::{Rooms, copy_ahead};
+use crate::band_lines::area;
 use crate::copying::{Copier, copy_all};
 use crate::documents::write_document;
-use crate::parts::area;
 use crate::texts::{put_end, put_size};
 use crate::writing::Writing;
 use error_lines::Fault;
@@ -270,7 +271,7 @@ fn write_planned<R: Threads + Sync, F: Folder, O: Sink>(
     ensures goes { (m : Files) (d : Dataset) → F.names folder.old ≡ Some m →
         slice_get translation.now.cat translation.now.id ≡ Some d →
         Goes (all_done (unless_quiet writing.now.quiet progress ++ publishes
-        (written m d translation.now.plan writing.now.name.now))) m result (F.names folder.new) (O.got out.old)
+        (written_files m d translation.now.plan writing.now.name.now))) m result (F.names folder.new) (O.got out.old)
         (O.got out.new) }
     ensures put { Puts (spoken writing.now.quiet progress) result (O.got out.old) (O.got out.new) }
     ensures quiet { writing.now.quiet ≡ true → out.new ≡ out.old }

@@ -3,7 +3,8 @@ ghost use Rattle.std.specs.Prelude.{◌≡◌, ◌<◌, ◌≤◌, ℕ, List, Op
 ghost use Rattle.outside.specs.Outside.{Files};
 ghost use Rattle.outside.specs.Streams.{Gets, GetsPart};
 ghost use Rattle.error_lines.specs.Progress.{progress, progress_len};
-ghost use Rattle.output_copies.specs.Copying.{spoken, MayEnd, Tells};
+ghost use Rattle.output_copies.specs.Copying.{spoken, MayEnd};
+ghost use Rattle.output_copies.specs.Filled.{Tells};
 
 use crate::texts::put_text;
 use error_lines::{Fault, progress_text};

@@ -9,11 +9,11 @@ use Rattle.std.proofs.lemmas.Bool.{and_parts}
 use Rattle.std.proofs.lemmas.Slice.Eq.{bytes_eq-Decides}
 use Rattle.std.proofs.lemmas.Grind.{flat_map-append}
 use Rattle.lists_and_answers.specs.Texts.{same_letters}
-use Rattle.outside.specs.Paths.{with_part, parts_of, pieces, joined, is_absolute, is_kept, spelled, normal, IsName}
+use Rattle.outside.specs.Paths.{with_part, kept_parts, between_slashes, joined, is_absolute, is_kept, path_of_parts, normal, IsName}
 use Rattle.outside.specs.Names.{extensions, extension_in, extension_of_ending, extension_of, ending_of, is_raw, has_no_lower, header_ending, with_header_ending, header_of}
 use Rattle.outside.specs.declared.name.Ext.{Ext}
-use Rattle.outside.proofs.PathParts.{parts_of-push}
-use Rattle.outside.proofs.Normal.{Free, step, pieces-one, pieces-append}
+use Rattle.outside.proofs.PathParts.{kept_parts-push}
+use Rattle.outside.proofs.Normal.{Free, step, between_slashes-one, between_slashes-append}
 use Rattle.outside.proofs.Cuts.{IsFront, Ending, ending-is, free-left, free-append}
 
 -- a part that is always taken as it stands
@@ -51,38 +51,38 @@ joined-last ps p =
     ∙ ap (λ (t : List ℕ). joined ps ++ 47 ∷ t) (append-nil p)
     ∙ sym (append_assoc (joined ps) (47 ∷ []) p)
 
-spelled-some : (absolute : Bool) (ps : List (List ℕ)) (p : List ℕ) → spelled absolute (ps ++ p ∷ []) ≡ cond absolute (joined (ps ++ p ∷ [])) (drop 1 (joined (ps ++ p ∷ [])))
-spelled-some absolute [] p = refl
-spelled-some absolute (q ∷ qs) p = refl
+path_of_parts-some : (absolute : Bool) (ps : List (List ℕ)) (p : List ℕ) → path_of_parts absolute (ps ++ p ∷ []) ≡ cond absolute (joined (ps ++ p ∷ [])) (drop 1 (joined (ps ++ p ∷ [])))
+path_of_parts-some absolute [] p = refl
+path_of_parts-some absolute (q ∷ qs) p = refl
 
-spelled-last : (absolute : Bool) (ps : List (List ℕ)) (p : List ℕ) → spelled absolute (ps ++ p ∷ []) ≡ front_of absolute ps ++ p
-spelled-last true ps p = spelled-some true ps p ∙ joined-last ps p
-spelled-last false ps p =
-    spelled-some false ps p
+path_of_parts-last : (absolute : Bool) (ps : List (List ℕ)) (p : List ℕ) → path_of_parts absolute (ps ++ p ∷ []) ≡ front_of absolute ps ++ p
+path_of_parts-last true ps p = path_of_parts-some true ps p ∙ joined-last ps p
+path_of_parts-last false ps p =
+    path_of_parts-some false ps p
     ∙ ap (drop 1) (joined-last ps p)
     ∙ drop-append-le 1 (joined ps ++ 47 ∷ []) p (omega (arith, length-append (joined ps) (47 ∷ [])))
 
 -- a path with a folder and a plain last part
 front : List ℕ → List ℕ
-front folder = front_of (is_absolute (folder ++ 47 ∷ [])) (parts_of (is_absolute (folder ++ 47 ∷ [])) [] (pieces folder))
+front folder = front_of (is_absolute (folder ++ 47 ∷ [])) (kept_parts (is_absolute (folder ++ 47 ∷ [])) [] (between_slashes folder))
 
 absolute-folder : (folder last : List ℕ) → is_absolute (folder ++ 47 ∷ last) ≡ is_absolute (folder ++ 47 ∷ [])
 absolute-folder [] last = refl
 absolute-folder (b ∷ bs) last = refl
 
-parts-last : (absolute : Bool) (folder last : List ℕ) → Plain last → parts_of absolute [] (pieces (folder ++ 47 ∷ last)) ≡ parts_of absolute [] (pieces folder) ++ last ∷ []
+parts-last : (absolute : Bool) (folder last : List ℕ) → Plain last → kept_parts absolute [] (between_slashes (folder ++ 47 ∷ last)) ≡ kept_parts absolute [] (between_slashes folder) ++ last ∷ []
 parts-last absolute folder last plain =
-    ap (parts_of absolute []) (pieces-append folder last ∙ ap (λ (t : List (List ℕ)). pieces folder ++ t) (pieces-one last plain.free))
-    ∙ parts_of-push absolute [] (pieces folder) last
-    ∙ plain.kept absolute (parts_of absolute [] (pieces folder))
+    ap (kept_parts absolute []) (between_slashes-append folder last ∙ ap (λ (t : List (List ℕ)). between_slashes folder ++ t) (between_slashes-one last plain.free))
+    ∙ kept_parts-push absolute [] (between_slashes folder) last
+    ∙ plain.kept absolute (kept_parts absolute [] (between_slashes folder))
 
 normal-last : (folder last : List ℕ) → Plain last → normal (folder ++ 47 ∷ last) ≡ front folder ++ last
 unfolding normal front
 normal-last folder last plain =
     let a = is_absolute (folder ++ 47 ∷ []) in
-    ap (λ r. spelled r (parts_of r [] (pieces (folder ++ 47 ∷ last)))) (absolute-folder folder last)
-    ∙ ap (spelled a) (parts-last a folder last plain)
-    ∙ spelled-last a (parts_of a [] (pieces folder)) last
+    ap (λ r. path_of_parts r (kept_parts r [] (between_slashes (folder ++ 47 ∷ last)))) (absolute-folder folder last)
+    ∙ ap (path_of_parts a) (parts-last a folder last plain)
+    ∙ path_of_parts-last a (kept_parts a [] (between_slashes folder)) last
 
 relative-free : (last : List ℕ) → Free 47 last → is_absolute last ≡ false
 relative-free [] f = refl
@@ -91,9 +91,9 @@ relative-free (b ∷ bs) f = f.0
 normal-alone : (last : List ℕ) → Plain last → normal last ≡ last
 unfolding normal
 normal-alone last plain =
-    ap (λ r. spelled r (parts_of r [] (pieces last))) (relative-free last plain.free)
-    ∙ ap (λ (t : List (List ℕ)). spelled false (parts_of false [] t)) (pieces-one last plain.free)
-    ∙ ap (spelled false) (plain.kept false [])
+    ap (λ r. path_of_parts r (kept_parts r [] (between_slashes last))) (relative-free last plain.free)
+    ∙ ap (λ (t : List (List ℕ)). path_of_parts false (kept_parts false [] t)) (between_slashes-one last plain.free)
+    ∙ ap (path_of_parts false) (plain.kept false [])
     ∙ append-nil last
 
 -- another plain last part in a normal path leaves it normal

@@ -6,7 +6,8 @@ use Rattle.std.proofs.lemmas.Slice.Eq.{bytes_eq-Decides}
 use Rattle.std.proofs.lemmas.List.Elements.{Contains-append_left, Contains-get_or, Contains-push, Contains-push_cases}
 use Rattle.std.proofs.lemmas.List.Quantifiers.{all_pairs_push}
 use Rattle.outside.specs.Outside.{Files}
-use Rattle.outside.specs.Memory.{files_of, newest, AreNames, AreApart}
+use Rattle.outside.specs.Memory.{files_of, AreNames, AreApart}
+use Rattle.outside.specs.Stored.{newest}
 use Rattle.outside.specs.declared.memory.Stored.{Stored}
 use Rattle.outside.proofs.Puts.{newest-none, newest-same, newest-other}
 

@@ -7,8 +7,8 @@ use Rattle.std.proofs.lemmas.Bool.{cases_lt}
 use Rattle.std.proofs.lemmas.Slice.Eq.{bytes_eq-Decides}
 use Rattle.std.proofs.lemmas.Grind.{flat_map-append}
 use Rattle.std.specs.List.{onto_first}
-use Rattle.outside.specs.Paths.{with_part, parts_of, pieces, joined, is_absolute, is_kept, spelled, normal, IsName}
-use Rattle.outside.proofs.PathParts.{parts_of-push}
+use Rattle.outside.specs.Paths.{with_part, kept_parts, between_slashes, joined, is_absolute, is_kept, path_of_parts, normal, IsName}
+use Rattle.outside.proofs.PathParts.{kept_parts-push}
 
 -- no byte is c
 abbrev pub Free : ℕ → List ℕ → Type 0
@@ -52,15 +52,15 @@ free-cond : (b : ℕ) (ps : List (List ℕ)) (r : Bool) → (b == 47) ≡ r → 
 free-cond b ps true e s = (tt, s)
 free-cond b ps false e s = free-onto b ps e s
 
-pub pieces-free : (text : List ℕ) → AllFree (pieces text)
-pieces-free [] = (tt, tt)
-pieces-free (b ∷ bs) = free-cond b (pieces bs) (b == 47) refl (pieces-free bs)
+pub between_slashes-free : (text : List ℕ) → AllFree (between_slashes text)
+between_slashes-free [] = (tt, tt)
+between_slashes-free (b ∷ bs) = free-cond b (between_slashes bs) (b == 47) refl (between_slashes-free bs)
 
 -- pieces of texts that are put together
 
-pub pieces-one : (p : List ℕ) → Free 47 p → pieces p ≡ p ∷ []
-pieces-one [] s = refl
-pieces-one (b ∷ bs) s = slice_split-cons_no (λ x. x == 47) b bs s.0 ∙ ap (onto_first b) (pieces-one bs s.1)
+pub between_slashes-one : (p : List ℕ) → Free 47 p → between_slashes p ≡ p ∷ []
+between_slashes-one [] s = refl
+between_slashes-one (b ∷ bs) s = slice_split-cons_no (λ x. x == 47) b bs s.0 ∙ ap (onto_first b) (between_slashes-one bs s.1)
 
 onto-append : (b : ℕ) (ps qs : List (List ℕ)) → 0 < length ps → onto_first b (ps ++ qs) ≡ onto_first b ps ++ qs
 onto-append b [] qs h = absurd (omega arith)
@@ -75,15 +75,15 @@ some-cond b ps true = omega arith
 some-cond b [] false = omega arith
 some-cond b (p ∷ ps) false = omega arith
 
-pieces-some : (text : List ℕ) → 0 < length (pieces text)
-pieces-some [] = omega arith
-pieces-some (b ∷ bs) = some-cond b (pieces bs) (b == 47)
+between_slashes-some : (text : List ℕ) → 0 < length (between_slashes text)
+between_slashes-some [] = omega arith
+between_slashes-some (b ∷ bs) = some-cond b (between_slashes bs) (b == 47)
 
-pub pieces-append : (xs ys : List ℕ) → pieces (xs ++ 47 ∷ ys) ≡ pieces xs ++ pieces ys
-pieces-append [] ys = refl
-pieces-append (b ∷ bs) ys =
-    ap (λ (ps : List (List ℕ)). cond (b == 47) ([] ∷ ps) (onto_first b ps)) (pieces-append bs ys)
-    ∙ cond-append b (pieces bs) (pieces ys) (b == 47) (pieces-some bs)
+pub between_slashes-append : (xs ys : List ℕ) → between_slashes (xs ++ 47 ∷ ys) ≡ between_slashes xs ++ between_slashes ys
+between_slashes-append [] ys = refl
+between_slashes-append (b ∷ bs) ys =
+    ap (λ (ps : List (List ℕ)). cond (b == 47) ([] ∷ ps) (onto_first b ps)) (between_slashes-append bs ys)
+    ∙ cond-append b (between_slashes bs) (between_slashes ys) (b == 47) (between_slashes-some bs)
 
 -- what one part does, by the four tests
 abbrev pub step : Bool → Bool → Bool → Bool → List (List ℕ) → List ℕ → List (List ℕ)
@@ -94,48 +94,48 @@ step dropped plain kept relative before part = if dropped then before
 
 -- each first part of these parts stays as it is
 record Stable (absolute : Bool) (parts : List (List ℕ)) : Type 0 where
-  pub first : (k : ℕ) → parts_of absolute [] (take k parts) ≡ take k parts
+  pub first : (k : ℕ) → kept_parts absolute [] (take k parts) ≡ take k parts
   pub are : AreParts parts
 
 stable-none : (absolute : Bool) → Stable absolute []
 stable-none absolute = record { first = none; are = tt }
   where
-    none : (k : ℕ) → parts_of absolute [] (take k []) ≡ take k []
+    none : (k : ℕ) → kept_parts absolute [] (take k []) ≡ take k []
     none zero = refl
     none (suc k) = refl
 
-stable-whole : (absolute : Bool) (before : List (List ℕ)) → Stable absolute before → parts_of absolute [] before ≡ before
+stable-whole : (absolute : Bool) (before : List (List ℕ)) → Stable absolute before → kept_parts absolute [] before ≡ before
 stable-whole absolute before s =
     let all : take (length before) before ≡ before = take_all (length before) before (omega arith) in
-    ap (parts_of absolute []) (sym all) ∙ s.first (length before) ∙ all
+    ap (kept_parts absolute []) (sym all) ∙ s.first (length before) ∙ all
 
 stable-push : (absolute : Bool) (before : List (List ℕ)) (part : List ℕ) → with_part absolute before part ≡ before ++ part ∷ [] → IsPart part → Stable absolute before → Stable absolute (before ++ part ∷ [])
 stable-push absolute before part e is s = record { first = first; are = parts-append before (part ∷ []) s.are (is, tt) }
   where
-    whole : parts_of absolute [] (before ++ part ∷ []) ≡ before ++ part ∷ []
-    whole = parts_of-push absolute [] before part ∙ ap (λ ps. with_part absolute ps part) (stable-whole absolute before s) ∙ e
+    whole : kept_parts absolute [] (before ++ part ∷ []) ≡ before ++ part ∷ []
+    whole = kept_parts-push absolute [] before part ∙ ap (λ ps. with_part absolute ps part) (stable-whole absolute before s) ∙ e
 
-    first : (k : ℕ) → parts_of absolute [] (take k (before ++ part ∷ [])) ≡ take k (before ++ part ∷ [])
+    first : (k : ℕ) → kept_parts absolute [] (take k (before ++ part ∷ [])) ≡ take k (before ++ part ∷ [])
     first k = ⊎_elim
         (λ (h : length before < k).
         let all : take k (before ++ part ∷ []) ≡ before ++ part ∷ [] = take_all k (before ++ part ∷ []) (omega (arith, length-append before (part ∷ []))) in
-        ap (parts_of absolute []) all ∙ whole ∙ sym all)
+        ap (kept_parts absolute []) all ∙ whole ∙ sym all)
         (λ (h : k ≤ length before).
         let cut : take k (before ++ part ∷ []) ≡ take k before = take-append-le k before (part ∷ []) h in
-        ap (parts_of absolute []) cut ∙ s.first k ∙ sym cut)
+        ap (kept_parts absolute []) cut ∙ s.first k ∙ sym cut)
         (cases_lt (length before) k)
 
 stable-take : (absolute : Bool) (before : List (List ℕ)) (n : ℕ) → Stable absolute before → Stable absolute (take n before)
 stable-take absolute before n s = record { first = first; are = parts-take n before s.are }
   where
-    first : (k : ℕ) → parts_of absolute [] (take k (take n before)) ≡ take k (take n before)
+    first : (k : ℕ) → kept_parts absolute [] (take k (take n before)) ≡ take k (take n before)
     first k = ⊎_elim
         (λ (h : n < k).
         let all : take k (take n before) ≡ take n before = take_all k (take n before) (omega (arith, length-take n before)) in
-        ap (parts_of absolute []) all ∙ s.first n ∙ sym all)
+        ap (kept_parts absolute []) all ∙ s.first n ∙ sym all)
         (λ (h : k ≤ n).
         let cut : take k (take n before) ≡ take k before = take-take k n before h in
-        ap (parts_of absolute []) cut ∙ s.first k ∙ sym cut)
+        ap (kept_parts absolute []) cut ∙ s.first k ∙ sym cut)
         (cases_lt n k)
 
 -- a part that isn't dropped has a byte
@@ -158,43 +158,43 @@ stable-with : (absolute : Bool) (before : List (List ℕ)) (part : List ℕ) →
 stable-with absolute before part free s =
     stable-step absolute before part (bytes_eq part [] || bytes_eq part (codes ".")) (not (bytes_eq part (codes ".."))) (is_kept before) (not absolute) refl refl (λ e. some-part part e free) s
 
-stable-all : (absolute : Bool) (before parts : List (List ℕ)) → AllFree parts → Stable absolute before → Stable absolute (parts_of absolute before parts)
+stable-all : (absolute : Bool) (before parts : List (List ℕ)) → AllFree parts → Stable absolute before → Stable absolute (kept_parts absolute before parts)
 stable-all absolute before [] free s = s
 stable-all absolute before (p ∷ ps) free s = stable-all absolute (with_part absolute before p) ps free.1 (stable-with absolute before p free.0 s)
 
 -- joined and cut again
 
-pieces-joined : (p : List ℕ) (ps : List (List ℕ)) → IsPart p → AreParts ps → pieces (p ++ joined ps) ≡ p ∷ ps
-pieces-joined p [] is are = ap pieces (append-nil p) ∙ pieces-one p (free-part p is)
-pieces-joined p (q ∷ qs) is are =
-    pieces-append p (q ++ joined qs)
-    ∙ ap (λ (x : List (List ℕ)). x ++ pieces (q ++ joined qs)) (pieces-one p (free-part p is))
-    ∙ ap (λ x. p ∷ x) (pieces-joined q qs are.0 are.1)
+between_slashes-joined : (p : List ℕ) (ps : List (List ℕ)) → IsPart p → AreParts ps → between_slashes (p ++ joined ps) ≡ p ∷ ps
+between_slashes-joined p [] is are = ap between_slashes (append-nil p) ∙ between_slashes-one p (free-part p is)
+between_slashes-joined p (q ∷ qs) is are =
+    between_slashes-append p (q ++ joined qs)
+    ∙ ap (λ (x : List (List ℕ)). x ++ between_slashes (q ++ joined qs)) (between_slashes-one p (free-part p is))
+    ∙ ap (λ x. p ∷ x) (between_slashes-joined q qs are.0 are.1)
 
 normal-absolute : (p : List ℕ) (ps : List (List ℕ)) → Stable true (p ∷ ps) → normal (joined (p ∷ ps)) ≡ joined (p ∷ ps)
 unfolding normal
 normal-absolute p ps s =
-    ap (λ (x : List (List ℕ)). spelled true (parts_of true [] ([] ∷ x))) (pieces-joined p ps s.are.0 s.are.1)
-    ∙ ap (spelled true) (stable-whole true (p ∷ ps) s)
+    ap (λ (x : List (List ℕ)). path_of_parts true (kept_parts true [] ([] ∷ x))) (between_slashes-joined p ps s.are.0 s.are.1)
+    ∙ ap (path_of_parts true) (stable-whole true (p ∷ ps) s)
 
 normal-relative : (p : List ℕ) (ps : List (List ℕ)) → Stable false (p ∷ ps) → normal (p ++ joined ps) ≡ p ++ joined ps
 unfolding normal
 normal-relative [] ps s = absurd s.are.0
 normal-relative (b ∷ bs) ps s =
-    ap (λ r. spelled r (parts_of r [] (pieces ((b ∷ bs) ++ joined ps)))) s.are.0.0
-    ∙ ap (λ (x : List (List ℕ)). spelled false (parts_of false [] x)) (pieces-joined (b ∷ bs) ps s.are.0 s.are.1)
-    ∙ ap (spelled false) (stable-whole false ((b ∷ bs) ∷ ps) s)
+    ap (λ r. path_of_parts r (kept_parts r [] (between_slashes ((b ∷ bs) ++ joined ps)))) s.are.0.0
+    ∙ ap (λ (x : List (List ℕ)). path_of_parts false (kept_parts false [] x)) (between_slashes-joined (b ∷ bs) ps s.are.0 s.are.1)
+    ∙ ap (path_of_parts false) (stable-whole false ((b ∷ bs) ∷ ps) s)
 
-normal-spelled : (absolute : Bool) (parts : List (List ℕ)) → Stable absolute parts → normal (spelled absolute parts) ≡ spelled absolute parts
+normal-path_of_parts : (absolute : Bool) (parts : List (List ℕ)) → Stable absolute parts → normal (path_of_parts absolute parts) ≡ path_of_parts absolute parts
 unfolding normal
-normal-spelled true [] s = refl
-normal-spelled false [] s = refl
-normal-spelled true (p ∷ ps) s = normal-absolute p ps s
-normal-spelled false (p ∷ ps) s = normal-relative p ps s
+normal-path_of_parts true [] s = refl
+normal-path_of_parts false [] s = refl
+normal-path_of_parts true (p ∷ ps) s = normal-absolute p ps s
+normal-path_of_parts false (p ∷ ps) s = normal-relative p ps s
 
 pub normal-normal : (text : List ℕ) → normal (normal text) ≡ normal text
 unfolding normal
-normal-normal text = normal-spelled (is_absolute text) (parts_of (is_absolute text) [] (pieces text)) (stable-all (is_absolute text) [] (pieces text) (pieces-free text) (stable-none (is_absolute text)))
+normal-normal text = normal-path_of_parts (is_absolute text) (kept_parts (is_absolute text) [] (between_slashes text)) (stable-all (is_absolute text) [] (between_slashes text) (between_slashes-free text) (stable-none (is_absolute text)))
 
 -- lengths
 
@@ -231,7 +231,7 @@ shorter-with absolute before part =
 joined-first : (p : List ℕ) (ps : List (List ℕ)) → length (joined (p ∷ ps)) ≡ 1 + length p + length (joined ps)
 joined-first p ps = ap suc (length-append p (joined ps)) ∙ omega arith
 
-shorter-all : (absolute : Bool) (before parts : List (List ℕ)) → length (joined (parts_of absolute before parts)) ≤ length (joined before) + length (joined parts)
+shorter-all : (absolute : Bool) (before parts : List (List ℕ)) → length (joined (kept_parts absolute before parts)) ≤ length (joined before) + length (joined parts)
 shorter-all absolute before [] = omega arith
 shorter-all absolute before (p ∷ ps) =
     let one = shorter-with absolute before p in
@@ -246,35 +246,35 @@ joined-cond : (b : ℕ) (ps : List (List ℕ)) (n : ℕ) (r : Bool) → length (
 joined-cond b ps n true e = omega (arith, joined-first [] ps)
 joined-cond b ps n false e = joined-onto b ps n e
 
-joined-pieces : (text : List ℕ) → length (joined (pieces text)) ≡ length text + 1
-joined-pieces [] = refl
-joined-pieces (b ∷ bs) = joined-cond b (pieces bs) (length bs) (b == 47) (joined-pieces bs)
+joined-between_slashes : (text : List ℕ) → length (joined (between_slashes text)) ≡ length text + 1
+joined-between_slashes [] = refl
+joined-between_slashes (b ∷ bs) = joined-cond b (between_slashes bs) (length bs) (b == 47) (joined-between_slashes bs)
 
 -- what a spelled path of these parts needs at most
 record Bounds (text : List ℕ) (n : ℕ) : Type 0 where
   pub some : 1 ≤ length text
   pub most : length text ≤ n
 
-bounds-absolute : (parts : List (List ℕ)) (n : ℕ) → 1 ≤ n → length (joined parts) ≤ n → Bounds (spelled true parts) n
+bounds-absolute : (parts : List (List ℕ)) (n : ℕ) → 1 ≤ n → length (joined parts) ≤ n → Bounds (path_of_parts true parts) n
 bounds-absolute [] n h m = record { some = omega arith; most = omega arith }
 bounds-absolute (p ∷ ps) n h m = record { some = omega (arith, joined-first p ps); most = m }
 
-bounds-relative : (parts : List (List ℕ)) (n : ℕ) → AreParts parts → 1 ≤ n → length (joined parts) ≤ n + 1 → Bounds (spelled false parts) n
+bounds-relative : (parts : List (List ℕ)) (n : ℕ) → AreParts parts → 1 ≤ n → length (joined parts) ≤ n + 1 → Bounds (path_of_parts false parts) n
 bounds-relative [] n are h m = record { some = omega arith; most = omega arith }
 bounds-relative ([] ∷ ps) n are h m = absurd are.0
 bounds-relative ((b ∷ bs) ∷ ps) n are h m = record { some = omega arith; most = omega arith }
 
-bounds-from : (text : List ℕ) (absolute : Bool) → 1 ≤ length text → is_absolute text ≡ absolute → Bounds (spelled absolute (parts_of absolute [] (pieces text))) (length text)
+bounds-from : (text : List ℕ) (absolute : Bool) → 1 ≤ length text → is_absolute text ≡ absolute → Bounds (path_of_parts absolute (kept_parts absolute [] (between_slashes text))) (length text)
 bounds-from [] absolute some e = absurd (omega arith)
 bounds-from (b ∷ bs) true some e =
-    let cut : pieces (b ∷ bs) ≡ [] ∷ pieces bs = slice_split-cons_yes (λ x. x == 47) b bs e in
-    subst (λ (x : List (List ℕ)). Bounds (spelled true (parts_of true [] x)) (length (b ∷ bs))) (sym cut)
-    (bounds-absolute (parts_of true [] (pieces bs)) (length (b ∷ bs)) some (omega (arith, shorter-all true [] (pieces bs), joined-pieces bs)))
+    let cut : between_slashes (b ∷ bs) ≡ [] ∷ between_slashes bs = slice_split-cons_yes (λ x. x == 47) b bs e in
+    subst (λ (x : List (List ℕ)). Bounds (path_of_parts true (kept_parts true [] x)) (length (b ∷ bs))) (sym cut)
+    (bounds-absolute (kept_parts true [] (between_slashes bs)) (length (b ∷ bs)) some (omega (arith, shorter-all true [] (between_slashes bs), joined-between_slashes bs)))
 bounds-from (b ∷ bs) false some e =
-    bounds-relative (parts_of false [] (pieces (b ∷ bs))) (length (b ∷ bs))
-    (stable-all false [] (pieces (b ∷ bs)) (pieces-free (b ∷ bs)) (stable-none false)).are
+    bounds-relative (kept_parts false [] (between_slashes (b ∷ bs))) (length (b ∷ bs))
+    (stable-all false [] (between_slashes (b ∷ bs)) (between_slashes-free (b ∷ bs)) (stable-none false)).are
     some
-    (omega (arith, shorter-all false [] (pieces (b ∷ bs)), joined-pieces (b ∷ bs)))
+    (omega (arith, shorter-all false [] (between_slashes (b ∷ bs)), joined-between_slashes (b ∷ bs)))
 
 normal-bounds : (text : List ℕ) → 1 ≤ length text → Bounds (normal text) (length text)
 unfolding normal

@@ -1,12 +1,13 @@
 use Rattle.std.proofs.Common.{◌≡◌, ℕ, zero, suc, ◌-◌, ◌<◌, Bool, List, [], ◌∷◌, ◌++◌, length, take, get_or, ap, refl, sym, ◌∙◌, Bor, subst, arith, lit<}
 use Rattle.std.specs.Prelude.{slice_get, option_map, Option, ◌==◌, false}
-use Rattle.outside.specs.Paths.{is_kept, is_other, dereferenced, with_part, parts_of, joined}
+use Rattle.outside.specs.Paths.{is_kept, is_other, with_part, kept_parts, joined}
+use Rattle.outside.specs.Plain.{dereferenced}
 use Rattle.std.proofs.lemmas.Str.{IsCharBoundary-after_ascii}
 use Rattle.std.specs.Str.{IsUtf8, IsCharBoundary}
 
-pub parts_of-push : (absolute : Bool) (before parts : List (List ℕ)) (part : List ℕ) → parts_of absolute before (parts ++ part ∷ []) ≡ with_part absolute (parts_of absolute before parts) part
-parts_of-push absolute before [] part = refl
-parts_of-push absolute before (p ∷ parts) part = parts_of-push absolute (with_part absolute before p) parts part
+pub kept_parts-push : (absolute : Bool) (before parts : List (List ℕ)) (part : List ℕ) → kept_parts absolute before (parts ++ part ∷ []) ≡ with_part absolute (kept_parts absolute before parts) part
+kept_parts-push absolute before [] part = refl
+kept_parts-push absolute before (p ∷ parts) part = kept_parts-push absolute (with_part absolute before p) parts part
 
 pub get-dereferenced : (parts : List (Bor (List ℕ))) (i : ℕ) → slice_get (dereferenced parts) i ≡ option_map (λ p. p.now) (slice_get parts i)
 get-dereferenced [] i = refl

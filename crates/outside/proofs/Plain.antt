@@ -3,7 +3,7 @@
 use Rattle.std.proofs.Common.{◌≡◌, ℕ, Bool, true, false, cond, not, ◌||◌, ◌&&◌, List, [], ◌∷◌, ◌++◌, length, take, drop, ◌-◌, refl, ap, sym, subst, ◌∙◌, append-nil, append_assoc, length-append, arith, bytes_eq, codes, eqb-true}
 use Rattle.std.specs.Prelude.{◌==◌, slice_get, Some}
 use Rattle.std.specs.List.{onto_first}
-use Rattle.outside.specs.Paths.{with_part, parts_of, pieces, joined, is_absolute, is_kept, is_other, spelled, normal}
+use Rattle.outside.specs.Paths.{with_part, kept_parts, between_slashes, joined, is_absolute, is_kept, is_other, path_of_parts, normal}
 use Rattle.outside.specs.Plain.{are_plain, behind_slash, adds_all}
 
 -- a part that begins with a byte that isn't a point
@@ -35,10 +35,10 @@ part_stays absolute before (b ∷ bs) plain =
     let other = cond (is_kept before) (take (length before - 1) before) (cond (not absolute) (before ++ codes ".." ∷ []) before) in
     ap (λ r. cond (r && bytes_eq bs []) before (cond (not (r && bytes_eq bs (46 ∷ []))) (before ++ (b ∷ bs) ∷ []) other)) plain
 
-parts_stay : (absolute : Bool) (before ps : List (List ℕ)) → ArePlain ps → parts_of absolute before ps ≡ before ++ ps
+parts_stay : (absolute : Bool) (before ps : List (List ℕ)) → ArePlain ps → kept_parts absolute before ps ≡ before ++ ps
 parts_stay absolute before [] plain = sym (append-nil before)
 parts_stay absolute before (p ∷ ps) plain =
-    ap (λ (x : List (List ℕ)). parts_of absolute x ps) (part_stays absolute before p plain.0)
+    ap (λ (x : List (List ℕ)). kept_parts absolute x ps) (part_stays absolute before p plain.0)
     ∙ parts_stay absolute (before ++ p ∷ []) ps plain.1
     ∙ append_assoc before (p ∷ []) ps
 
@@ -51,15 +51,15 @@ joined_case : (b : ℕ) (ps : List (List ℕ)) (t : List ℕ) (r : Bool) → (b 
 joined_case b ps t true slash e = ap (λ x. 47 ∷ x) (e ∙ ap (λ c. c ∷ t) (sym (eqb-true b 47 slash)))
 joined_case b ps t false slash e = joined_onto b ps t e
 
-joined_pieces : (text : List ℕ) → joined (pieces text) ≡ 47 ∷ text
+joined_pieces : (text : List ℕ) → joined (between_slashes text) ≡ 47 ∷ text
 joined_pieces [] = refl
-joined_pieces (b ∷ bs) = joined_case b (pieces bs) bs (b == 47) refl (joined_pieces bs)
+joined_pieces (b ∷ bs) = joined_case b (between_slashes bs) bs (b == 47) refl (joined_pieces bs)
 
-spelled_relative : (ps : List (List ℕ)) (t : List ℕ) → joined ps ≡ 47 ∷ t → spelled false ps ≡ t
+spelled_relative : (ps : List (List ℕ)) (t : List ℕ) → joined ps ≡ 47 ∷ t → path_of_parts false ps ≡ t
 spelled_relative [] t e = absurd cc
 spelled_relative (p ∷ ps) t e = ap (drop 1) e
 
-spelled_absolute : (ps : List (List ℕ)) (t : List ℕ) → joined ps ≡ 47 ∷ t → spelled true ps ≡ 47 ∷ t
+spelled_absolute : (ps : List (List ℕ)) (t : List ℕ) → joined ps ≡ 47 ∷ t → path_of_parts true ps ≡ 47 ∷ t
 spelled_absolute [] t e = absurd cc
 spelled_absolute (p ∷ ps) t e = e
 
@@ -96,28 +96,28 @@ none_passed : (first : Bool) → not first ≡ true → Passed first ([] ∷ [])
 none_passed true h = absurd cc
 none_passed false h = record { front = λ f. absurd cc; rest = tt }
 
-passed : (first : Bool) (text : List ℕ) → are_plain first text ≡ true → Passed first (pieces text)
+passed : (first : Bool) (text : List ℕ) → are_plain first text ≡ true → Passed first (between_slashes text)
 passed first [] h = none_passed first h
 passed first (c ∷ cs) h =
     let both = and_both (not (first && ((c == 47) || (c == 46)))) (are_plain (c == 47) cs) h in
-    passed_case c first (pieces cs) (c == 47) both.0 (passed (c == 47) cs both.1)
+    passed_case c first (between_slashes cs) (c == 47) both.0 (passed (c == 47) cs both.1)
 
-all_plain : (text : List ℕ) → are_plain true text ≡ true → ArePlain (pieces text)
-all_plain text h = let p = passed true text h in both_plain (pieces text) (p.front refl) p.rest
+all_plain : (text : List ℕ) → are_plain true text ≡ true → ArePlain (between_slashes text)
+all_plain text h = let p = passed true text h in both_plain (between_slashes text) (p.front refl) p.rest
 
 -- a path with no slash in front, and one with a slash there
 relative : (text : List ℕ) → is_absolute text ≡ false → are_plain true text ≡ true → normal text ≡ text
 unfolding normal
 relative text is h =
-    ap (λ r. spelled r (parts_of r [] (pieces text))) is
-    ∙ ap (spelled false) (parts_stay false [] (pieces text) (all_plain text h))
-    ∙ spelled_relative (pieces text) text (joined_pieces text)
+    ap (λ r. path_of_parts r (kept_parts r [] (between_slashes text))) is
+    ∙ ap (path_of_parts false) (parts_stay false [] (between_slashes text) (all_plain text h))
+    ∙ spelled_relative (between_slashes text) text (joined_pieces text)
 
 absolute : (text : List ℕ) → are_plain true text ≡ true → normal (47 ∷ text) ≡ 47 ∷ text
 unfolding normal
 absolute text h =
-    ap (spelled true) (parts_stay true [] (pieces text) (all_plain text h))
-    ∙ spelled_absolute (pieces text) text (joined_pieces text)
+    ap (path_of_parts true) (parts_stay true [] (between_slashes text) (all_plain text h))
+    ∙ spelled_absolute (between_slashes text) text (joined_pieces text)
 
 by_slash : (c : ℕ) (cs : List ℕ) (slash : Bool) → (c == 47) ≡ slash → are_plain true (cond slash cs (c ∷ cs)) ≡ true → normal (c ∷ cs) ≡ c ∷ cs
 by_slash c cs true e h = subst (λ b. normal (b ∷ cs) ≡ b ∷ cs) (sym (eqb-true c 47 e)) (absolute cs h)
@@ -145,18 +145,18 @@ ends_parent before =
 
 pub parent_added : (text rest : List ℕ) → text ≡ 46 ∷ 46 ∷ 47 ∷ rest → adds_all rest → adds_all text
 parent_added text rest is kept before last =
-    ap (λ (t : List ℕ). parts_of false before (pieces t)) is
-    ∙ ap (λ (ps : List (List ℕ)). parts_of false ps (pieces rest)) (parent_stays before last)
+    ap (λ (t : List ℕ). kept_parts false before (between_slashes t)) is
+    ∙ ap (λ (ps : List (List ℕ)). kept_parts false ps (between_slashes rest)) (parent_stays before last)
     ∙ kept (before ++ parent ∷ []) (ends_parent before)
-    ∙ append_assoc before (parent ∷ []) (pieces rest)
-    ∙ ap (λ (t : List ℕ). before ++ pieces t) (sym is)
+    ∙ append_assoc before (parent ∷ []) (between_slashes rest)
+    ∙ ap (λ (t : List ℕ). before ++ between_slashes t) (sym is)
 
 plain_added : (text : List ℕ) → are_plain true text ≡ true → adds_all text
-plain_added text h before last = parts_stay false before (pieces text) (all_plain text h)
+plain_added text h before last = parts_stay false before (between_slashes text) (all_plain text h)
 
 pub parents_normal : (text rest : List ℕ) → is_absolute text ≡ false → (adds_all rest → adds_all text) → are_plain true rest ≡ true → normal text ≡ text
 unfolding normal
 parents_normal text rest is added h =
-    ap (λ r. spelled r (parts_of r [] (pieces text))) is
-    ∙ ap (spelled false) (added (plain_added rest h) [] refl)
-    ∙ spelled_relative (pieces text) text (joined_pieces text)
+    ap (λ r. path_of_parts r (kept_parts r [] (between_slashes text))) is
+    ∙ ap (path_of_parts false) (added (plain_added rest h) [] refl)
+    ∙ spelled_relative (between_slashes text) text (joined_pieces text)

@@ -8,7 +8,8 @@ use Rattle.std.proofs.lemmas.Map.Text.{is_eq-slice_cmp}
 use Rattle.std.proofs.lemmas.Slice.Eq.{bytes_eq-Decides}
 use Rattle.std.proofs.lemmas.List.{take_more}
 use Rattle.outside.specs.Outside.{Files}
-use Rattle.outside.specs.Memory.{put_all, files_of, newest}
+use Rattle.outside.specs.Memory.{put_all, files_of}
+use Rattle.outside.specs.Stored.{newest}
 use Rattle.outside.specs.declared.memory.Stored.{Stored}
 use Rattle.outside.proofs.Orders.{names_with-push}
 

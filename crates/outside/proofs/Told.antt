@@ -2,7 +2,7 @@
 use Rattle.std.proofs.Common.{◌≡◌, ◌+◌, ◌<◌, ◌≤◌, ℕ, List, [], ◌++◌, length, take, drop, Option, Some, None, Result, Ok, Err, refl, sym, ap, ◌∙◌, subst, arith, append_assoc, append-nil, length-append, length-take-le, take-append-drop, take_at, drop_at}
 use Rattle.std.proofs.lemmas.List.{nil_from_length}
 use Rattle.std.specs.Io.KnownBytes.{Keeps, Appends, Consumes, IsAtEnd, WriteAppends}
-use Rattle.outside.specs.Streams.{Taken, Gets, GetsPart}
+use Rattle.outside.specs.Streams.{TakenFrom, Gets, GetsPart}
 use Rattle.outside.proofs.Sinks.{gets-none, gets-then, gets-whole, part-first}
 
 -- told bytes stay
@@ -23,7 +23,7 @@ stays-more old mid new s kept = record { kept = λ b is. keeps-told mid new b ke
 
 -- a read of n bytes
 taken : (mid new : Option (List ℕ)) (out : List ℕ) (n : ℕ) (b : List ℕ) → n ≤ length out → 0 < length out
-    → Consumes mid new (take n out) → (n ≡ 0 → 0 < length out → IsAtEnd new) → mid ≡ Some b → Taken b out new n
+    → Consumes mid new (take n out) → (n ≡ 0 → 0 < length out → IsAtEnd new) → mid ≡ Some b → TakenFrom b out new n
 taken None new out n b within some eats end is = absurd cc
 taken (Some x) None out n b within some eats end is = absurd eats
 taken (Some x) (Some y) out n b within some eats end is =
@@ -39,7 +39,7 @@ taken (Some x) (Some y) out n b within some eats end is =
     }
 
 pub told-read : (old mid new : Option (List ℕ)) (out : List ℕ) (n : ℕ) → Stays old mid → n ≤ length out → 0 < length out
-    → Consumes mid new (take n out) × (n ≡ 0 → 0 < length out → IsAtEnd new) → (b : List ℕ) → old ≡ Some b → Taken b out new n
+    → Consumes mid new (take n out) × (n ≡ 0 → 0 < length out → IsAtEnd new) → (b : List ℕ) → old ≡ Some b → TakenFrom b out new n
 told-read old mid new out n s within some read = λ b is. taken mid new out n b within some read.0 read.1 (s.kept b is)
 
 -- a first part of the bytes was written, and the rest is left

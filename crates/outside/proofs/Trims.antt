@@ -3,17 +3,17 @@ use Rattle.std.proofs.Common.{◌≡◌, ◌<◌, ◌≤◌, ◌-◌, ◌+◌, �
 use Rattle.std.specs.Prelude.{◌==◌, slice_index}
 use Rattle.std.proofs.lemmas.List.{drop_more}
 use Rattle.std.proofs.lemmas.Str.{IsCharBoundary-from_drop, IsCharBoundary-before_ascii, IsCharBoundary-after_ascii}
-use Rattle.outside.specs.Paths.{parts_of, pieces, is_absolute, spelled, normal}
+use Rattle.outside.specs.Paths.{kept_parts, between_slashes, is_absolute, path_of_parts, normal}
 use Rattle.outside.specs.Plain.{add_the_same}
 
 pub slash_falls : (c : ℕ) (rest : List ℕ) → (c == 47) ≡ true → add_the_same (c ∷ rest) rest
 slash_falls c rest e absolute before =
-    ap (λ (b : ℕ). parts_of absolute before (pieces (b ∷ rest))) (eqb-true c 47 e)
+    ap (λ (b : ℕ). kept_parts absolute before (between_slashes (b ∷ rest))) (eqb-true c 47 e)
 
 pub point_falls : (c d : ℕ) (rest : List ℕ) → (c == 46) ≡ true → (d == 47) ≡ true → add_the_same (c ∷ d ∷ rest) rest
 point_falls c d rest e f absolute before =
-    ap (λ (b : ℕ). parts_of absolute before (pieces (b ∷ d ∷ rest))) (eqb-true c 46 e)
-    ∙ ap (λ (b : ℕ). parts_of absolute before (pieces (46 ∷ b ∷ rest))) (eqb-true d 47 f)
+    ap (λ (b : ℕ). kept_parts absolute before (between_slashes (b ∷ d ∷ rest))) (eqb-true c 46 e)
+    ∙ ap (λ (b : ℕ). kept_parts absolute before (between_slashes (46 ∷ b ∷ rest))) (eqb-true d 47 f)
 
 pub ruleset falls = (slash_falls, point_falls)
 
@@ -21,16 +21,16 @@ pub ruleset falls = (slash_falls, point_falls)
 same_relative : (text rest : List ℕ) → add_the_same text rest → is_absolute text ≡ false → is_absolute rest ≡ false → normal rest ≡ normal text
 unfolding normal
 same_relative text rest same is rest_is =
-    ap (λ r. spelled r (parts_of r [] (pieces rest))) rest_is
-    ∙ ap (spelled false) (sym (same false []))
-    ∙ sym (ap (λ r. spelled r (parts_of r [] (pieces text))) is)
+    ap (λ r. path_of_parts r (kept_parts r [] (between_slashes rest))) rest_is
+    ∙ ap (path_of_parts false) (sym (same false []))
+    ∙ sym (ap (λ r. path_of_parts r (kept_parts r [] (between_slashes text))) is)
 
 -- the same where one does, and a slash is put before the other
 same_absolute : (text rest : List ℕ) → add_the_same text rest → is_absolute text ≡ true → normal (47 ∷ rest) ≡ normal text
 unfolding normal
 same_absolute text rest same is =
-    ap (spelled true) (sym (same true []))
-    ∙ sym (ap (λ r. spelled r (parts_of r [] (pieces text))) is)
+    ap (path_of_parts true) (sym (same true []))
+    ∙ sym (ap (λ r. path_of_parts r (kept_parts r [] (between_slashes text))) is)
 
 -- of bytes that are the text's: what stands behind adds the same
 pub same_behind : (text bytes rest : List ℕ) (n : ℕ) → bytes ≡ text → rest ≡ drop n text → add_the_same bytes (drop n bytes) → add_the_same text rest

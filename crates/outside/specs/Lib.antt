@@ -13,3 +13,5 @@ pub mod Counting
 pub mod Held
 pub mod Histories
 pub mod Plain
+pub mod Stored
+pub mod Temporary

@@ -21,10 +21,6 @@ put_all m (s ∷ ss) = put_all (insert m s.name s.bytes.items) ss
 abbrev pub files_of : List Stored → Files
 files_of ss = put_all empty ss
 
--- what was put last under a name
-abbrev pub newest : List Stored → List ℕ → Option (List ℕ)
-newest ss name = get (files_of ss) name
-
 -- a list has each name under which a file stands, and no other
 abbrev pub AreNames : List (List ℕ) → Option Files → Type 0
 AreNames names told = (m : Files) → told ≡ Some m → (name : List ℕ) → Contains names name ↔ IsSome (get m name)

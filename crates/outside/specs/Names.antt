@@ -1,6 +1,6 @@
 -- Names of files, as bytes: their parts, the kinds of files, and the header beside raw data.
 use Rattle.std.specs.Prelude.{ℕ, ◌-◌, ◌==◌, Bool, true, false, not, List, [], ◌∷◌, ◌++◌, length, take, codes, Option}
-use Rattle.std.specs.Prelude.{Some, None, option_map, option_and_then, if◌then◌else◌, decimal}
+use Rattle.std.specs.Prelude.{Some, None, option_map, option_and_then, if◌then◌else◌}
 use Rattle.std.specs.List.{list_all}
 use Rattle.std.specs.Option.{unwrap_or}
 use Rattle.std.specs.Char.{is_ascii_lowercase}
@@ -26,17 +26,6 @@ behind_last c text = option_map (λ p. p.1) (cut_last c text)
 -- what stands before the last slash of a name
 unfoldable pub folder_part : List ℕ → Option (List ℕ)
 folder_part name = option_map (λ p. p.0) (cut_last slash name)
-
--- a name with two numbers in it, in a folder or without one
-abbrev pub temporary_in : Option (List ℕ) → ℕ → ℕ → List ℕ
-temporary_in None process number =
-    codes ".jirovamby." ++ (decimal process ++ (codes "." ++ (decimal number ++ codes ".tmp")))
-temporary_in (Some folder) process number =
-    folder ++ (codes "/.jirovamby." ++ (decimal process ++ (codes "." ++ (decimal number ++ codes ".tmp"))))
-
--- the name of a draft's file: in the folder of the name that it is for, by the numbers of the process and the file
-abbrev pub temporary_of : List ℕ → ℕ → ℕ → List ℕ
-temporary_of name process number = temporary_in (folder_part name) process number
 
 -- what stands behind the last slash of a name, or all of it where there is none
 unfoldable pub last_part : List ℕ → List ℕ

@@ -24,8 +24,8 @@ abbrev pub NotThere : {T : Type 0} → Option Files → List ℕ → Result T Op
 NotThere names name result = result ≡ Err Absent → (m : Files) → names ≡ Some m → get m name ≡ None
 
 -- out is the n bytes at this place
-abbrev pub Reads : Option (List ℕ) → ℕ → ℕ → List ℕ → Type 0
-Reads bytes pos n out = (b : List ℕ) → bytes ≡ Some b → out ≡ take n (drop pos b)
+abbrev pub ReadsBytes : Option (List ℕ) → ℕ → ℕ → List ℕ → Type 0
+ReadsBytes bytes pos n out = (b : List ℕ) → bytes ≡ Some b → out ≡ take n (drop pos b)
 
 -- an empty draft that carries the name
 pub record Created (names : Option Files) (name : List ℕ) (draft_name : List ℕ) (bytes : Option (List ℕ)) (len : ℕ)

@@ -1,17 +1,12 @@
 -- Paths and their normal forms, by their parts.
 use Rattle.std.specs.Prelude.{ℕ, ◌≡◌, ◌≤◌, ◌==◌, ◌-◌, Bool, false, not, ◌||◌, List, [], ◌∷◌, ◌++◌, length, take, drop}
-use Rattle.std.specs.Prelude.{map, flat_map, codes, bytes_eq, slice_get, Option, Some, None, if◌then◌else◌}
+use Rattle.std.specs.Prelude.{flat_map, codes, bytes_eq, slice_get, Option, Some, None, if◌then◌else◌}
 use Rattle.std.specs.List.{slice_split}
 use Rattle.lists_and_answers.specs.Bytes.{slash}
-use denote.Ref.{Bor}
 
 -- The most bytes of a name.
 abbrev pub longest_name : ℕ
 longest_name = 4096
-
--- the parts that references stand for
-abbrev pub dereferenced : List (Bor (List ℕ)) → List (List ℕ)
-dereferenced parts = map (λ p. p.now) parts
 
 -- a part is there, and it isn't `..`
 abbrev pub is_other : Option (List ℕ) → Bool
@@ -31,13 +26,13 @@ with_part absolute parts part = if bytes_eq part [] || bytes_eq part (codes ".")
     else if not absolute then parts ++ codes ".." ∷ [] else parts
 
 -- the parts that stay, of those before and those that follow, in order
-abbrev pub parts_of : Bool → List (List ℕ) → List (List ℕ) → List (List ℕ)
-parts_of absolute before [] = before
-parts_of absolute before (part ∷ parts) = parts_of absolute (with_part absolute before part) parts
+abbrev pub kept_parts : Bool → List (List ℕ) → List (List ℕ) → List (List ℕ)
+kept_parts absolute before [] = before
+kept_parts absolute before (part ∷ parts) = kept_parts absolute (with_part absolute before part) parts
 
 -- the text's parts between its slashes
-abbrev pub pieces : List ℕ → List (List ℕ)
-pieces text = slice_split (λ b. b == slash) text
+abbrev pub between_slashes : List ℕ → List (List ℕ)
+between_slashes text = slice_split (λ b. b == slash) text
 
 -- a slash before each part
 abbrev pub joined : List (List ℕ) → List ℕ
@@ -49,13 +44,13 @@ is_absolute [] = false
 is_absolute (b ∷ bs) = b == slash
 
 -- the parts with slashes between them, and one at the front of an absolute path; no part at all is / or .
-abbrev pub spelled : Bool → List (List ℕ) → List ℕ
-spelled absolute [] = if absolute then codes "/" else codes "."
-spelled absolute (p ∷ ps) = if absolute then joined (p ∷ ps) else drop 1 (joined (p ∷ ps))
+abbrev pub path_of_parts : Bool → List (List ℕ) → List ℕ
+path_of_parts absolute [] = if absolute then codes "/" else codes "."
+path_of_parts absolute (p ∷ ps) = if absolute then joined (p ∷ ps) else drop 1 (joined (p ∷ ps))
 
 -- the normal form of a path
 unfoldable pub normal : List ℕ → List ℕ
-normal text = spelled (is_absolute text) (parts_of (is_absolute text) [] (pieces text))
+normal text = path_of_parts (is_absolute text) (kept_parts (is_absolute text) [] (between_slashes text))
 
 -- a text that is the name of a file: in its normal form, and of 1 to 4,096 bytes
 pub record IsName (text : List ℕ) : Type 0 where

@@ -1,8 +1,9 @@
 -- Paths that are their own normal form, by the first bytes of their parts, and texts that add the same parts.
-use Rattle.std.specs.Prelude.{◌≡◌, ℕ, ◌==◌, Bool, true, false, not, ◌||◌, ◌&&◌, if◌then◌else◌}
-use Rattle.std.specs.Prelude.{List, Option, Some, None, [], ◌∷◌, ◌++◌}
+use denote.Ref.{Bor}
+use Rattle.std.specs.Prelude.{◌≡◌, ℕ, ◌==◌, Bool, true, false, not, ◌||◌, ◌&&◌, if◌then◌else◌, List, Option, Some, None}
+use Rattle.std.specs.Prelude.{[], ◌∷◌, ◌++◌, map}
 use Rattle.lists_and_answers.specs.Bytes.{point, slash}
-use Rattle.outside.specs.Paths.{parts_of, pieces, is_kept}
+use Rattle.outside.specs.Paths.{kept_parts, between_slashes, is_kept}
 
 -- whether a byte isn't a slash
 abbrev pub is_in_part : ℕ → Bool
@@ -31,10 +32,14 @@ are_plain_behind text (Some rest) = are_plain false text ≡ are_plain true rest
 -- two texts add the same parts to any that stand before them
 abbrev pub add_the_same : List ℕ → List ℕ → Type 0
 add_the_same text other =
-    (absolute : Bool) (before : List (List ℕ)) → parts_of absolute before (pieces text)
-    ≡ parts_of absolute before (pieces other)
+    (absolute : Bool) (before : List (List ℕ)) → kept_parts absolute before (between_slashes text)
+    ≡ kept_parts absolute before (between_slashes other)
 
 -- a relative path adds all its parts to any of which .. removes none
 abbrev pub adds_all : List ℕ → Type 0
 adds_all text =
-    (before : List (List ℕ)) → is_kept before ≡ false → parts_of false before (pieces text) ≡ before ++ pieces text
+    (before : List (List ℕ)) → is_kept before ≡ false → kept_parts false before (between_slashes text) ≡ before ++ between_slashes text
+
+-- the parts that references stand for
+abbrev pub dereferenced : List (Bor (List ℕ)) → List (List ℕ)
+dereferenced parts = map (λ p. p.now) parts

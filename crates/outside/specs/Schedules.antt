@@ -72,8 +72,8 @@ abbrev pub failing_of : Listed → List Failing
 failing_of schedule = schedule.failing
 
 -- the calls that were made
-abbrev pub made_of : Listed → Made
-made_of schedule = schedule.made
+abbrev pub calls_made : Listed → Made
+calls_made schedule = schedule.made
 
 -- how many of them failed
 abbrev pub faults_of : Listed → ℕ
@@ -85,14 +85,14 @@ IsPlanned failing made method = Contains failing (Call made.all) ⊎ Contains fa
 
 -- the next call is to fail, if it is one of this method
 abbrev pub Plans : Listed → Method → Type 0
-Plans schedule method = IsPlanned (failing_of schedule) (with_call (made_of schedule) method) method
+Plans schedule method = IsPlanned (failing_of schedule) (with_call (calls_made schedule) method) method
 
 -- a view's schedule has the folder's list, and counts on from the folder's numbers
 pub record Forked (folder view : Listed) : Type 0 where
   pub list : failing_of view ≡ failing_of folder
-  pub numbers : made_of view ≡ made_of folder
+  pub numbers : calls_made view ≡ calls_made folder
 
 -- the folder's numbers move to the view's where those are greater, and its list stays
 pub record Moved (before view now : Listed) : Type 0 where
   pub list : failing_of now ≡ failing_of before
-  pub numbers : made_of now ≡ later_of (made_of before) (made_of view)
+  pub numbers : calls_made now ≡ later_of (calls_made before) (calls_made view)

@@ -1,7 +1,8 @@
 // A folder that counts calls of the one that it holds, and tells what that one tells.
 ghost use Rattle.std.specs.Prelude.{◌≡◌, ◌+◌, ◌≤◌, length, IfOk, OnOk, OnErr};
 ghost use Rattle.outside.specs.Causes.{HasCause, FailsWith, Absorbed, one_more, added};
-ghost use Rattle.outside.specs.Outside.{Opened, IsLong, NotThere, Reads, Created, Grown, Written, Appended, Published};
+ghost use Rattle.outside.specs.Outside.{Opened, IsLong, NotThere, ReadsBytes, Created, Grown, Written, Appended};
+ghost use Rattle.outside.specs.Outside.{Published};
 ghost use Rattle.outside.specs.Outside.{ChangesOnly, IsView};
 ghost use Rattle.outside.specs.Counting.{opens_of};
 
@@ -114,7 +115,7 @@ impl<F: Folder> Folder for CountingFolder<F> {
 
     fn read_at(&mut self, file: &mut F::File, pos: u64, out: &mut [u8]) -> Result<(), Failed>
         requires { pos + length out.old ≤ F.file_len file.old }
-        ensures ok { OnOk result (Reads (F.file_bytes file.old) pos (length out.old) out.new) }
+        ensures ok { OnOk result (ReadsBytes (F.file_bytes file.old) pos (length out.old) out.new) }
         ensures bytes { F.file_bytes file.new ≡ F.file_bytes file.old }
         ensures len { F.file_len file.new ≡ F.file_len file.old }
         ensures names { F.names self.new.inner ≡ F.names self.old.inner }
@@ -183,7 +184,7 @@ impl<F: Folder> Folder for CountingFolder<F> {
 
     fn draft_read(&mut self, draft: &mut F::Draft, pos: u64, out: &mut [u8]) -> Result<(), Failed>
         requires { pos + length out.old ≤ F.draft_len draft.old }
-        ensures ok { OnOk result (Reads (F.draft_bytes draft.old) pos (length out.old) out.new) }
+        ensures ok { OnOk result (ReadsBytes (F.draft_bytes draft.old) pos (length out.old) out.new) }
         ensures bytes { F.draft_bytes draft.new ≡ F.draft_bytes draft.old }
         ensures len { F.draft_len draft.new ≡ F.draft_len draft.old }
         ensures name { F.draft_name draft.new ≡ F.draft_name draft.old }

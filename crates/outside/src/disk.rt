@@ -2,7 +2,7 @@
 ghost use Rattle.std.specs.Prelude.{None, ◌≡◌, ◌≤◌, ◌+◌, length, IfOk, OnOk, OnErr, IsErr, IsErrOf};
 ghost use Rattle.outside.specs.Causes.{Rose, HasCause, FailsWith, CountsWhere, one_more};
 ghost use Rattle.outside.specs.Disks.{faults_of, reads_of, writes_of, file_len_of, draft_name_of, draft_len_of};
-ghost use Rattle.outside.specs.Outside.{Opened, IsLong, NotThere, Reads, Created, Grown, Written, Appended};
+ghost use Rattle.outside.specs.Outside.{Opened, IsLong, NotThere, ReadsBytes, Created, Grown, Written, Appended};
 ghost use Rattle.outside.specs.Outside.{Published, ChangesOnly};
 
 use crate::system::{fill_at, is_absent, make_temporary, may_replace, open_regular, put_at};
@@ -124,7 +124,7 @@ impl<R: Files<File = File> + Clone + Drop + Send> Folder for DiskFolder<R> {
 
     fn read_at(&mut self, file: &mut DiskFile, pos: u64, out: &mut [u8]) -> Result<(), Failed>
         requires { pos + length out.old ≤ file_len_of file.old }
-        ensures ok { OnOk result (Reads None pos (length out.old) out.new) }
+        ensures ok { OnOk result (ReadsBytes None pos (length out.old) out.new) }
         ensures bytes { ⟦<DiskFolder<R> as Folder>⟧.file_bytes file.new ≡ ⟦<DiskFolder<R> as Folder>⟧.file_bytes
             file.old }
         ensures len { file_len_of file.new ≡ file_len_of file.old }
@@ -242,7 +242,7 @@ impl<R: Files<File = File> + Clone + Drop + Send> Folder for DiskFolder<R> {
 
     fn draft_read(&mut self, draft: &mut DiskDraft, pos: u64, out: &mut [u8]) -> Result<(), Failed>
         requires { pos + length out.old ≤ draft_len_of draft.old }
-        ensures ok { OnOk result (Reads None pos (length out.old) out.new) }
+        ensures ok { OnOk result (ReadsBytes None pos (length out.old) out.new) }
         ensures bytes { ⟦<DiskFolder<R> as Folder>⟧.draft_bytes draft.new ≡ ⟦<DiskFolder<R> as Folder>⟧.draft_bytes
             draft.old }
         ensures len { draft_len_of draft.new ≡ draft_len_of draft.old }

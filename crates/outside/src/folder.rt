@@ -1,6 +1,6 @@
 // Files by name, as the program sees them.
 ghost use Rattle.std.specs.Prelude.{◌≡◌, ◌+◌, ◌-◌, ◌≤◌, List, [], ℕ, Option, length, OnOk, OnErr, IfOk};
-ghost use Rattle.outside.specs.Outside.{Files, Opened, IsLong, NotThere, Reads, Grown, Written, Appended, Created};
+ghost use Rattle.outside.specs.Outside.{Files, Opened, IsLong, NotThere, ReadsBytes, Grown, Written, Appended, Created};
 ghost use Rattle.outside.specs.Outside.{Published, ChangesOnly, IsView};
 ghost use Rattle.outside.specs.Causes.{HasCause, FailsWith, Absorbed, one_more, added};
 ghost use Rattle.outside.specs.declared.folder.OpenFault.TheVariants as open_fault;
@@ -109,7 +109,7 @@ pub trait Folder: Sized + Send {
     /// Fills `out` with the bytes from this place on, which stand within the file's length.
     fn read_at(&mut self, file: &mut Self::File, pos: u64, out: &mut [u8]) -> Result<(), Failed>
         requires { pos + length out.old ≤ file_len file.old }
-        ensures ok { OnOk result (Reads (file_bytes file.old) pos (length out.old) out.new) }
+        ensures ok { OnOk result (ReadsBytes (file_bytes file.old) pos (length out.old) out.new) }
         ensures bytes { file_bytes file.new ≡ file_bytes file.old }
         ensures len { file_len file.new ≡ file_len file.old }
         ensures names { names self.new ≡ names self.old }
@@ -171,7 +171,7 @@ pub trait Folder: Sized + Send {
         out: &mut [u8],
     ) -> Result<(), Failed>
         requires { pos + length out.old ≤ draft_len draft.old }
-        ensures ok { OnOk result (Reads (draft_bytes draft.old) pos (length out.old) out.new) }
+        ensures ok { OnOk result (ReadsBytes (draft_bytes draft.old) pos (length out.old) out.new) }
         ensures bytes { draft_bytes draft.new ≡ draft_bytes draft.old }
         ensures len { draft_len draft.new ≡ draft_len draft.old }
         ensures name { draft_name draft.new ≡ draft_name draft.old }

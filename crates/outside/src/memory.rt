@@ -4,10 +4,11 @@ ghost use Rattle.std.specs.Prelude.{OnErr, IsErr, IsErrOf, IsTrue, option_map};
 ghost use Rattle.std.specs.FinMap as map;
 ghost use Rattle.lists_and_answers.specs.Lists.{with_name};
 ghost use Rattle.outside.specs.Causes.{HasCause, FailsWith, Absorbed, CountsWhere, one_more, added};
-ghost use Rattle.outside.specs.Memory.{files_of, newest, AreNames, AreApart, names_of, reads_of, writes_of};
-ghost use Rattle.outside.specs.Memory.{schedule_of, drafts_of, drafts_more, file_bytes_of, file_len_of};
-ghost use Rattle.outside.specs.Memory.{draft_name_of, draft_bytes_of, draft_len_of, names_with, came_of};
-ghost use Rattle.outside.specs.Outside.{Files, WithFile, IsUnder, Opened, IsLong, NotThere, Reads, Created, Grown};
+ghost use Rattle.outside.specs.Memory.{files_of, AreNames, AreApart, names_of, reads_of, writes_of, schedule_of};
+ghost use Rattle.outside.specs.Memory.{drafts_of, drafts_more, file_bytes_of, file_len_of, draft_name_of};
+ghost use Rattle.outside.specs.Memory.{draft_bytes_of, draft_len_of, names_with, came_of};
+ghost use Rattle.outside.specs.Stored.{newest};
+ghost use Rattle.outside.specs.Outside.{Files, WithFile, IsUnder, Opened, IsLong, NotThere, ReadsBytes, Created, Grown};
 ghost use Rattle.outside.specs.Outside.{Written, Appended, Published, ChangesOnly, IsView};
 ghost use Rattle.outside.specs.declared.folder.OpenFault.TheVariants as open_fault;
 ghost use Rattle.outside.specs.declared.folder.WriteFault.TheVariants as write_fault;
@@ -256,7 +257,7 @@ impl<P: Schedule> Folder for MemoryFolder<P> {
 
     fn read_at(&mut self, file: &mut MemFile, pos: u64, out: &mut [u8]) -> Result<(), Failed>
         requires { pos + length out.old ≤ file_len_of file.old }
-        ensures ok { OnOk result (Reads (file_bytes_of file.old) pos (length out.old) out.new) }
+        ensures ok { OnOk result (ReadsBytes (file_bytes_of file.old) pos (length out.old) out.new) }
         ensures bytes { file_bytes_of file.new ≡ file_bytes_of file.old }
         ensures len { file_len_of file.new ≡ file_len_of file.old }
         ensures names { names_of self.new ≡ names_of self.old }
@@ -377,7 +378,7 @@ impl<P: Schedule> Folder for MemoryFolder<P> {
 
     fn draft_read(&mut self, draft: &mut MemDraft, pos: u64, out: &mut [u8]) -> Result<(), Failed>
         requires { pos + length out.old ≤ draft_len_of draft.old }
-        ensures ok { OnOk result (Reads (draft_bytes_of draft.old) pos (length out.old) out.new) }
+        ensures ok { OnOk result (ReadsBytes (draft_bytes_of draft.old) pos (length out.old) out.new) }
         ensures bytes { draft_bytes_of draft.new ≡ draft_bytes_of draft.old }
         ensures len { draft_len_of draft.new ≡ draft_len_of draft.old }
         ensures name { draft_name_of draft.new ≡ draft_name_of draft.old }

@@ -2,8 +2,9 @@
 ghost use Rattle.std.specs.Prelude.{◌≡◌, ◌<◌, ◌≤◌, true, false, length, option_map, string_bytes, [], ◌∷◌};
 ghost use Rattle.std.specs.Prelude.{◌-◌, if◌then◌else◌, drop, slice_index, IfOk, IfSome, OnOk};
 ghost use Rattle.std.specs.List.{prefix_len};
-ghost use Rattle.outside.specs.Paths.{dereferenced, with_part, parts_of, pieces, joined, normal, is_kept, is_absolute};
-ghost use Rattle.outside.specs.Plain.{are_plain, are_plain_behind, behind_slash, is_in_part, add_the_same, adds_all};
+ghost use Rattle.outside.specs.Paths.{with_part, kept_parts, between_slashes, joined, normal, is_kept, is_absolute};
+ghost use Rattle.outside.specs.Plain.{dereferenced, are_plain, are_plain_behind, behind_slash, is_in_part};
+ghost use Rattle.outside.specs.Plain.{add_the_same, adds_all};
 
 use crate::Text;
 use memchr::memchr;
@@ -44,7 +45,7 @@ fn take_part<'a>(absolute: bool, parts: &mut Vec<&'a str>, part: &'a str) -> Res
 
 // The parts that stay. Empty parts and points are passed over without being cut off one by one.
 fn normal_parts(alloc: Global, absolute: bool, text: &str) -> Result<Vec<&str>, AllocError>
-    ensures { IfOk result (λ parts. dereferenced parts.items ≡ parts_of absolute [] (pieces text.now)) }
+    ensures { IfOk result (λ parts. dereferenced parts.items ≡ kept_parts absolute [] (between_slashes text.now)) }
 {
     let mut parts = Vec::new(alloc);
     let mut rest = behind_dropped(text);

@@ -2,7 +2,7 @@
 ghost use Rattle.std.specs.Prelude.{◌≡◌, ◌≤◌, ℕ, ⊤, IsTrue, IfOk, ◌↔◌};
 ghost use Rattle.outside.specs.Causes.{Rose, Absorbed, CountsWhere, one_more, added};
 ghost use Rattle.outside.specs.Schedules.{number_of, with_call, later_of, no_call, Plans, Forked, Moved, failing_of};
-ghost use Rattle.outside.specs.Schedules.{made_of, faults_of, IsPlanned};
+ghost use Rattle.outside.specs.Schedules.{calls_made, faults_of, IsPlanned};
 ghost use Rattle.outside.specs.declared.schedule.Method.{Method};
 
 use lists_and_answers::Items;
@@ -257,7 +257,7 @@ impl Listed {
     /// These calls are to fail, and none was made yet.
     pub fn new(failing: Items<Failing>) -> Self
         ensures failing { failing_of result ≡ failing }
-        ensures made { made_of result ≡ no_call }
+        ensures made { calls_made result ≡ no_call }
         ensures faults { ⟦<Listed as Schedule>⟧.faults result ≡ 0 }
     {
         Listed {
@@ -272,7 +272,7 @@ impl Listed {
         ensures faults { ⟦<Listed as Schedule>⟧.faults self.new ≡ one_more (⟦<Listed as Schedule>⟧.faults self.old) }
         ensures later { ⟦<Listed as Schedule>⟧.faults self.old ≤ ⟦<Listed as Schedule>⟧.faults self.new }
         ensures failing { failing_of self.new ≡ failing_of self.old }
-        ensures made { made_of self.new ≡ made_of self.old }
+        ensures made { calls_made self.new ≡ calls_made self.old }
     {
         self.faults = self.faults.saturating_add(1);
     }
@@ -293,7 +293,7 @@ impl Schedule for Listed {
         ensures later { faults_of self.old ≤ faults_of self.new }
         ensures risen { IsTrue result → Rose (faults_of self.old) (faults_of self.new) }
         ensures failing { failing_of self.new ≡ failing_of self.old }
-        ensures made { made_of self.new ≡ with_call (made_of self.old) method }
+        ensures made { calls_made self.new ≡ with_call (calls_made self.old) method }
     {
         self.made = self.made.count(method);
         let fails = is_planned(self.failing.as_slice(), self.made, method);

@@ -1,6 +1,6 @@
 // Whole reads and writes of open files, and what stands under a path of the system.
 ghost use Rattle.std.specs.Prelude.{◌≡◌, string_bytes, IfOk, IfSome};
-ghost use Rattle.outside.specs.Names.{temporary_of};
+ghost use Rattle.outside.specs.Temporary.{temporary_of};
 
 use crate::name::folder_of;
 use std::alloc::{AllocError, Global};

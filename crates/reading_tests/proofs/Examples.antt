@@ -4,7 +4,7 @@ use Rattle.geotransform.specs.declared.types.Rect.{Rect}
 use Rattle.mosaic_sources.specs.Rows.{Rows}
 use Rattle.nearest_window.specs.declared.indexes.Kept.{Kept}
 use Rattle.nearest_window.specs.declared.wanted.Wanted.TheVariants.{All}
-use Rattle.nearest_window.specs.Indexes.{is_of, listed_of, all_listed, kept_behind, without_index}
+use Rattle.nearest_window.specs.Indexes.{is_kept_for, listed_of, all_listed, kept_behind, without_index}
 use Rattle.nearest_window.specs.Wanted.{numbers_of, bound, IsListedIn}
 
 -- of four lines the first three have source 0, and the last three source 1
@@ -18,13 +18,13 @@ second = record { dataset = 2; band = 1; index = Some rows }
 abbrev third : Kept
 third = record { dataset = 2; band = 2; index = None }
 
-same_band : is_of second 2 1 ≡ true
+same_band : is_kept_for second 2 1 ≡ true
 same_band = refl
 
-other_band : is_of second 2 2 ≡ false
+other_band : is_kept_for second 2 2 ≡ false
 other_band = refl
 
-other_dataset : is_of second 1 1 ≡ false
+other_dataset : is_kept_for second 1 1 ≡ false
 other_dataset = refl
 
 -- a number counts once for each stretch whose list has it

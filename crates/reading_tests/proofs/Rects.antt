@@ -5,7 +5,7 @@ use Rattle.catalog.specs.Dataset.{DatasetHead}
 use Rattle.catalog.specs.Drivers.{Dataset}
 use Rattle.catalog.proofs.Pixels.{at_number}
 use Rattle.nearest_window.specs.declared.window.Window.{Window}
-use Rattle.nearest_window.specs.Shown.{IsWindow}
+use Rattle.nearest_window.specs.Windows.{IsWindow}
 use Rattle.nearest_window.proofs.Blocks.{head_of}
 
 pub window_in : (cat : List Dataset) (window : Window) (h : DatasetHead) → window.dataset < length cat → option_map (λ (d : Dataset). d.head) (slice_get cat window.dataset) ≡ Some h → window.band < length h.bands → window.rect.x + window.rect.w ≤ h.size.w → window.rect.y + window.rect.h ≤ h.size.h → IsWindow cat window

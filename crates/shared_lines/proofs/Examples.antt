@@ -5,7 +5,7 @@ use Rattle.catalog.specs.Drivers.{Dataset}
 use Rattle.band_blocks.specs.declared.key.BlockKey.{BlockKey}
 use Rattle.band_blocks.specs.Blocks.{BlockView}
 use Rattle.band_blocks.specs.Contents.{IsBlock}
-use Rattle.shared_lines.specs.Events.{Line, empty, taken, held, Kind, look, leave, take, put, done, Event, line_of, opening, Step, Leads}
+use Rattle.shared_lines.specs.Events.{Line, empty, taken, held, Kind, look, leave, take, put, done, Event, key_line_of, opening, Step, Leads}
 
 key_at : ℕ → BlockKey
 key_at block = record { dataset = 0; band = 0; block = block }
@@ -14,7 +14,7 @@ at_one : Kind → Event
 at_one kind = record { at = 1; kind = kind }
 
 -- blocks 1 and 5 share a line of four
-blocks_share : line_of 4 (key_at 1) ≡ line_of 4 (key_at 5)
+blocks_share : key_line_of 4 (key_at 1) ≡ key_line_of 4 (key_at 5)
 unfolding key_at
 blocks_share = refl
 

@@ -8,7 +8,7 @@ use Rattle.catalog.specs.Drivers.{Dataset}
 use Rattle.band_blocks.specs.declared.key.BlockKey.{BlockKey}
 use Rattle.band_blocks.specs.Blocks.{BlockView}
 use Rattle.band_blocks.specs.Contents.{IsBlock}
-use Rattle.shared_lines.specs.Events.{Line, empty, taken, held, Kind, look, leave, take, put, done, Event, line_of, opening, IsRight, Changes, Step, Leads, IsRightLine, AreRight, IsRightKind, ShowsRight, LooksAreRight, LinesAreRight}
+use Rattle.shared_lines.specs.Events.{Line, empty, taken, held, Kind, look, leave, take, put, done, Event, key_line_of, opening, IsRight, Changes, Step, Leads, IsRightLine, AreRight, IsRightKind, ShowsRight, LooksAreRight, LinesAreRight}
 
 module _ (told : Option Files) (cat : List Dataset) (count : ℕ) where
   changed : (at : ℕ) (old : Line) (kind : Kind) (new : Line) → Changes told cat count at old kind new → IsRightLine told cat count at old → IsRightLine told cat count at new

@@ -29,8 +29,8 @@ pub record Event : Type 0 where
   pub kind : Kind
 
 -- which line of so many is that of a key
-abbrev pub line_of : ℕ → BlockKey → ℕ
-line_of count key = (key.dataset * 31 + key.band * 7 + key.block) % count
+abbrev pub key_line_of : ℕ → BlockKey → ℕ
+key_line_of count key = (key.dataset * 31 + key.band * 7 + key.block) % count
 
 -- the lines as they begin
 abbrev pub opening : ℕ → List Line
@@ -39,7 +39,7 @@ opening count = replicate count empty
 module _ (told : Option Files) (cat : List Dataset) (count : ℕ) where
   -- the block is that of the key, and the line is the key's
   abbrev pub IsRight : ℕ → BlockKey → BlockView → Type 0
-  IsRight at key block = IsBlock told cat key block × (line_of count key ≡ at)
+  IsRight at key block = IsBlock told cat key block × (key_line_of count key ≡ at)
 
   -- what one event makes of its line
   abbrev pub Changes : ℕ → Line → Kind → Line → Type 0

@@ -4,7 +4,7 @@
 ghost use Rattle.std.specs.Prelude.{◌≡◌, ℕ, ◌+◌, ◌^◌, ◌%◌, ◌<◌, ◌≤◌, length, Option, true, false, IfOk, IfSome};
 ghost use Rattle.counted_slot.specs.Counting.{IsTurn, readers};
 ghost use Rattle.band_blocks.specs.Contents.{IsBlock};
-ghost use Rattle.shared_lines.specs.Events.{line_of};
+ghost use Rattle.shared_lines.specs.Events.{key_line_of};
 ghost use Rattle.shared_lines.specs.Shapes.{HasShape};
 ghost use Rattle.band_blocks.specs.Blocks.{most_blocks};
 
@@ -64,7 +64,7 @@ fn empty_lines<S: Scene>(
 // The number of a key's line.
 fn line_at(key: &BlockKey, count: usize) -> usize
     requires some { 0 < count }
-    ensures line { result ≡ line_of count key.now }
+    ensures line { result ≡ key_line_of count key.now }
     ensures within { result < count }
 {
     let number = key.dataset as u128 * 31 + key.band as u128 * 7 + key.block as u128;

@@ -14,13 +14,13 @@ use Rattle.translate_plan.specs.declared.options.Driver.{Driver}
 use Rattle.translate_plan.specs.declared.options.Driver.TheVariants.{EHdr, Dted, SrtmHgt, AaiGrid, Vrt}
 use Rattle.translate_plan.specs.Plan.{Planned, BandsHold, IsPlan, held}
 use Rattle.strip_copies.specs.declared.holding.Holding.{Holding}
-use Rattle.strip_copies.specs.Rows.{least_of, nearest, IsHolding}
+use Rattle.strip_copies.specs.Rows.{least_sample_by, nearest, IsHolding}
 
 near_cell : (v : ℤ) → nearest (negsuc 32766) (pos 32767) v ≡ held (Dted 0) Int16 v
 near_cell v = grind (arith, nat_tests, ints)
 
 -- a sample of a driver's files is the nearest that its band can hold
-nearest_held : (d : Driver) (kind : PixelType) → ((level : ℕ) → d ≡ Dted level → kind ≡ Int16) → (v : ℤ) → nearest (least_of d kind) (highest kind) v ≡ held d kind v
+nearest_held : (d : Driver) (kind : PixelType) → ((level : ℕ) → d ≡ Dted level → kind ≡ Int16) → (v : ℤ) → nearest (least_sample_by d kind) (highest kind) v ≡ held d kind v
 nearest_held EHdr kind h v = refl
 nearest_held (Dted level) kind h v = rw (h level refl) (near_cell v)
 nearest_held SrtmHgt kind h v = refl
@@ -35,7 +35,7 @@ cell_kind : (p : Planned) (d : Driver) (level k : ℕ) (b : OutBand) → BandsHo
 cell_kind p d level k b holds is e = (one_of (λ b. (b.kind ≡ Int16) × (b.nodata ≡ Some (negsuc 32766))) p.bands k b (subst (λ d. BandsHold d p.bands) is holds) e).0
 
 holding_by : (p : Planned) (k : ℕ) (h : Holding) (kind : PixelType) (nodata : Option ℤ) (found : Option OutBand) → slice_get p.bands k ≡ found → IsPlan p → option_map (λ b. b.kind) found ≡ Some kind → option_map (λ b. b.nodata) found ≡ Some nodata
-    → h.least ≡ least_of p.driver kind → h.most ≡ highest kind → h.fill ≡ unwrap_or nodata (pos 0) → IsHolding p k h
+    → h.least ≡ least_sample_by p.driver kind → h.most ≡ highest kind → h.fill ≡ unwrap_or nodata (pos 0) → IsHolding p k h
 holding_by p k h kind nodata None e plan t n least most fill = absurd (cc)
 holding_by p k h kind nodata (Some b) e plan t n least most fill =
     let same : b.kind ≡ kind = cc in
@@ -43,10 +43,10 @@ holding_by p k h kind nodata (Some b) e plan t n least most fill =
     record {
       band = b;
       at = e;
-      held = λ v. ap (λ l. nearest l h.most v) (least ∙ ap (least_of p.driver) (sym same)) ∙ ap (λ m. nearest (least_of p.driver b.kind) m v) (most ∙ ap highest (sym same)) ∙ nearest_held p.driver b.kind (λ level is. cell_kind p p.driver level k b plan.alike is e) v;
+      held = λ v. ap (λ l. nearest l h.most v) (least ∙ ap (least_sample_by p.driver) (sym same)) ∙ ap (λ m. nearest (least_sample_by p.driver b.kind) m v) (most ∙ ap highest (sym same)) ∙ nearest_held p.driver b.kind (λ level is. cell_kind p p.driver level k b plan.alike is e) v;
       fill = fill ∙ ap (λ o. unwrap_or o (pos 0)) (sym word);
     }
 
 pub holding_is : (p : Planned) (k : ℕ) (h : Holding) (kind : PixelType) (nodata : Option ℤ) → IsPlan p → option_map (λ b. b.kind) (slice_get p.bands k) ≡ Some kind → option_map (λ b. b.nodata) (slice_get p.bands k) ≡ Some nodata
-    → h.least ≡ least_of p.driver kind → h.most ≡ highest kind → h.fill ≡ unwrap_or nodata (pos 0) → IsHolding p k h
+    → h.least ≡ least_sample_by p.driver kind → h.most ≡ highest kind → h.fill ≡ unwrap_or nodata (pos 0) → IsHolding p k h
 holding_is p k h kind nodata plan t n least most fill = holding_by p k h kind nodata (slice_get p.bands k) refl plan t n least most fill

@@ -13,7 +13,8 @@ use Rattle.translate_plan.specs.declared.band.OutBand.{OutBand}
 use Rattle.translate_plan.specs.Plan.{Planned, held, is_in_raster, pixel_in, out_pixel, shown_column, shown_line}
 use Rattle.strip_copies.specs.declared.columns.Columns.{Columns}
 use Rattle.strip_copies.specs.declared.holding.Holding.{Holding}
-use Rattle.strip_copies.specs.Rows.{held_to, column_at, made_found, made_of, nearest, AreColumns, IsHolding, IsSample}
+use Rattle.strip_copies.specs.Rows.{made_found, made_of, nearest, IsHolding, IsSample}
+use Rattle.strip_copies.specs.Columns.{held_to, column_at, AreColumns}
 
 -- a number held to a side is within it
 pub held_within : (side : ℕ) (a : ℤ) → held_to side a ≤ side

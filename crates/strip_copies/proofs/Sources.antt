@@ -10,8 +10,9 @@ use Rattle.catalog.specs.Dataset.{DatasetHead}
 use Rattle.translate_plan.specs.declared.band.OutBand.{OutBand}
 use Rattle.translate_plan.specs.Options.{Options, IsOptions}
 use Rattle.translate_plan.specs.Window.{asked_in, window_in, inside_in, sides_of, size_in}
-use Rattle.translate_plan.specs.Fits.{count_in, geo_in, place_in}
-use Rattle.translate_plan.specs.Bands.{all_known, AreKnown, count_of, out_band_at, band_by, is_bare, asked_bands, out_bands, source_number_at}
+use Rattle.translate_plan.specs.Fits.{band_count_in, geo_in, place_in}
+use Rattle.translate_plan.specs.Bands.{all_known, count_of, out_band_at, nodata_band_by, is_bare, asked_bands, out_bands, source_number_at}
+use Rattle.translate_plan.specs.Limits.{AreKnown}
 use Rattle.translate_plan.specs.Plan.{Planned, fits_in, plan_of}
 use Rattle.translate_plan.proofs.Kept.{are_known}
 
@@ -41,7 +42,7 @@ planned_of o h p found =
     let v = bind_is (window_in asked.value) _ p asked.rest in
     let inside = bind_is (inside_in o.epo o.eco v.value h.size) _ p v.rest in
     let size = bind_is (size_in (sides_of o.outsize v.value.size)) _ p inside.rest in
-    let few = bind_is (count_in o.driver (count_of o.bands (length h.bands))) _ p size.rest in
+    let few = bind_is (band_count_in o.driver (count_of o.bands (length h.bands))) _ p size.rest in
     let geo = bind_is (geo_in o.driver h.geo v.value size.value) _ p few.rest in
     let place = bind_is (place_in o.driver geo.value) _ p geo.rest in
     let held = bind_is (fits_in o (asked_bands o h) size.value geo.value) _ p place.rest in
@@ -57,7 +58,7 @@ known_source (b ∷ bs) k count all known less =
     let below = known.each k 0 (omega arith) in
     omega (arith, one.0, below)
 
-source_by : (o : Options) (h : DatasetHead) (bare : Bool) (k count : ℕ) → source_number_at o.bands k < count → (band_by bare (out_band_at o h k)).source < count
+source_by : (o : Options) (h : DatasetHead) (bare : Bool) (k count : ℕ) → source_number_at o.bands k < count → (nodata_band_by bare (out_band_at o h k)).source < count
 source_by o h true k count less = less
 source_by o h false k count less = less
 
@@ -72,4 +73,4 @@ sources_known o h p options found =
     let n = count_of o.bands (length h.bands) in
     let bare = is_bare o.driver (asked_bands o h) in
     subst (All (λ (b : OutBand). b.source < length h.bands)) (sym of.bands)
-    (all_by (λ b. b.source < length h.bands) (λ k. band_by bare (out_band_at o h k)) n (λ k less. source_by o h bare k (length h.bands) (known_source o.bands k (length h.bands) options.bands of.known less)))
+    (all_by (λ b. b.source < length h.bands) (λ k. nodata_band_by bare (out_band_at o h k)) n (λ k less. source_by o h bare k (length h.bands) (known_source o.bands k (length h.bands) options.bands of.known less)))

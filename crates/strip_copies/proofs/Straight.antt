@@ -14,8 +14,8 @@ use Rattle.translate_plan.specs.Plan.{Planned, shown, shown_column, shown_line}
 use Rattle.strip_copies.specs.declared.columns.Columns.{Columns}
 use Rattle.strip_copies.specs.declared.holding.Holding.{Holding}
 use Rattle.strip_copies.specs.declared.spans.Run.{Run}
-use Rattle.strip_copies.specs.Copies.{IsDirect}
-use Rattle.strip_copies.specs.Rows.{column_at, nearest, strip_rect, AreColumns, AreSamples, IsHolding, IsSample, IsStrip}
+use Rattle.strip_copies.specs.Rows.{IsDirect, nearest, strip_rect, AreSamples, IsHolding, IsSample, IsStrip}
+use Rattle.strip_copies.specs.Columns.{column_at, AreColumns}
 use Rattle.strip_copies.proofs.Samples.{held_sample}
 
 -- of as many lines as there are, each shows itself

@@ -12,8 +12,8 @@ use Rattle.catalog.specs.Pixels.{pixel_of_name}
 use Rattle.catalog.specs.Places.{row_by_row}
 use Rattle.translate_plan.specs.Plan.{Planned, IsPlan, out_pixel}
 use Rattle.translate_plan.proofs.Shown.{pixel_held, cell_held}
-use Rattle.strip_copies.specs.Copies.{lines_rect}
-use Rattle.strip_copies.specs.Rows.{AreSamples, IsHeldIn, IsSample}
+use Rattle.strip_copies.specs.Copies.{lines_rect, IsHeldIn}
+use Rattle.strip_copies.specs.Rows.{AreSamples, IsSample}
 
 -- what follows from what holds where a call answers Ok
 pub on_ok : {T E : Type 0} (r : Result T E) (P Q : Type 0) → (P → Q) → OnOk r P → OnOk r Q

@@ -1,7 +1,7 @@
 // The columns of the source that an output shows.
 ghost use Rattle.std.specs.Prelude.{◌≡◌, ◌<◌, ◌≤◌, ◌+◌, ◌+ℤ◌, pos, IfOk};
 ghost use Rattle.translate_plan.specs.Plan.{shown_column};
-ghost use Rattle.strip_copies.specs.Rows.{column_at, held_to, AreColumns};
+ghost use Rattle.strip_copies.specs.Columns.{column_at, held_to, AreColumns};
 ghost use Rattle.geotransform.specs.Limits.{most_side};
 ghost use Rattle.geotransform.specs.Pixels.{within};
 

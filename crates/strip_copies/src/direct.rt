@@ -3,8 +3,7 @@ ghost use Rattle.std.specs.Prelude.{◌≡◌, ◌<◌, ◌≤◌, ◌+◌, ◌-
 ghost use Rattle.geotransform.specs.Types.{is_in};
 ghost use Rattle.geotransform.specs.Pixels.{within};
 ghost use Rattle.translate_plan.specs.Plan.{shown_line};
-ghost use Rattle.strip_copies.specs.Rows.{nearest, AreShownIn};
-ghost use Rattle.strip_copies.specs.Copies.{IsDirect};
+ghost use Rattle.strip_copies.specs.Rows.{nearest, AreShownIn, IsDirect};
 
 use crate::columns::Columns;
 use crate::holding::Holding;

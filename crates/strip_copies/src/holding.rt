@@ -1,7 +1,7 @@
 // What a band of an output makes of samples.
 ghost use Rattle.std.specs.Prelude.{◌≡◌, ◌<◌, ℤ, true, length};
 ghost use Rattle.geotransform.specs.Types.{is_in};
-ghost use Rattle.strip_copies.specs.Rows.{least_of, nearest, IsHolding};
+ghost use Rattle.strip_copies.specs.Rows.{least_sample_by, nearest, IsHolding};
 
 use geotransform::{PixelType, Sample};
 use translate_plan::{Driver, Plan};
@@ -16,7 +16,7 @@ pub struct Holding {
 
 // The least sample of a driver's files: that of the type, in a cell the least elevation.
 fn least_of(driver: Driver, kind: PixelType) -> Sample
-    ensures least { result ≡ least_of driver kind }
+    ensures least { result ≡ least_sample_by driver kind }
 {
     match driver {
         Driver::Dted { .. } => -32_767,

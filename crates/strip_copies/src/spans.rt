@@ -1,6 +1,6 @@
 // Lines of the source that are read at a time.
 ghost use Rattle.std.specs.Prelude.{◌≡◌, ◌<◌, ◌≤◌, ◌+◌, ◌^◌, ℕ, Some, IfSome};
-ghost use Rattle.strip_copies.specs.Rows.{AreShownIn, IsIn};
+ghost use Rattle.strip_copies.specs.Rows.{AreShownIn, IsInSpan};
 ghost use Rattle.geotransform.specs.Limits.{most_side};
 
 use crate::shown_places::line_at;
@@ -31,7 +31,7 @@ pub struct Reach {
 
 // The span of one line, or of none.
 fn span_of(place: Option<u32>) -> Span
-    ensures within { (y : ℕ) → place ≡ Some y → IsIn result y }
+    ensures within { (y : ℕ) → place ≡ Some y → IsInSpan result y }
     ensures few { result.height ≤ 1 }
     ensures side { (side : ℕ) → IfSome place (λ y. y < side) → result.top + result.height ≤ side }
 {
@@ -44,8 +44,8 @@ fn span_of(place: Option<u32>) -> Span
 // The span that has one line more; None where it would reach too far, or begin earlier.
 fn reached(span: Span, reach: Reach, line: u32) -> Option<Span>
     requires side { span.top + span.height < 2 ^ 32 }
-    ensures within { IfSome result (λ s. IsIn s line) }
-    ensures kept { IfSome result (λ s. (y : ℕ) → IsIn span y → IsIn s y) }
+    ensures within { IfSome result (λ s. IsInSpan s line) }
+    ensures kept { IfSome result (λ s. (y : ℕ) → IsInSpan span y → IsInSpan s y) }
     ensures few { IfSome result (λ s. span.height ≤ reach.rows → s.height ≤ reach.rows) }
     ensures side { IfSome result (λ s. (side : ℕ) → line < side → span.top + span.height ≤ side →
         s.top + s.height ≤ side) }
@@ -67,8 +67,8 @@ fn reached(span: Span, reach: Reach, line: u32) -> Option<Span>
 fn widened(span: Span, reach: Reach, place: Option<u32>) -> Option<Span>
     requires rows { 1 ≤ reach.rows }
     requires side { span.top + span.height < 2 ^ 32 }
-    ensures within { IfSome result (λ s. (y : ℕ) → place ≡ Some y → IsIn s y) }
-    ensures kept { IfSome result (λ s. (y : ℕ) → IsIn span y → IsIn s y) }
+    ensures within { IfSome result (λ s. (y : ℕ) → place ≡ Some y → IsInSpan s y) }
+    ensures kept { IfSome result (λ s. (y : ℕ) → IsInSpan span y → IsInSpan s y) }
     ensures few { IfSome result (λ s. span.height ≤ reach.rows → s.height ≤ reach.rows) }
     ensures side { IfSome result (λ s. (side : ℕ) → IfSome place (λ y. y < side) → span.top + span.height ≤ side →
         s.top + s.height ≤ side) }

@@ -16,7 +16,7 @@ use Rattle.catalog.specs.Dataset.{DatasetHead}
 use Rattle.catalog.specs.Heads.{document_in, dataset_in}
 use Rattle.catalog.specs.Walk.{walked}
 use Rattle.translate_plan.specs.Bands.{all_known, count_of, asked_bands}
-use Rattle.translate_plan.specs.Fits.{count_in, geo_in, place_in}
+use Rattle.translate_plan.specs.Fits.{band_count_in, geo_in, place_in}
 use Rattle.translate_plan.specs.Options as translate
 use Rattle.translate_plan.specs.Plan.{IsOutBand, IsAlike, IsPlan, fits_in, plan_of, planned_by}
 use Rattle.translate_plan.specs.Window.{asked_in, asked_of, window_in, is_empty, is_large, is_far, inside_in, sides_of, size_in}
@@ -43,7 +43,7 @@ then_ok r x f y first rest = ap (λ a. a >>= f) first ∙ rest
 -- what is planned where no check refuses
 planned : (o : translate.Options) (h : DatasetHead) (asked : Asked) (v : Window) (size : Size) (geo : Option Transform)
     → all_known o.bands (length h.bands) ≡ Ok tt → asked_in o.view h.size h.geo ≡ Ok asked → window_in asked ≡ Ok v → inside_in o.epo o.eco v h.size ≡ Ok tt
-    → size_in (sides_of o.outsize v.size) ≡ Ok size → count_in o.driver (count_of o.bands (length h.bands)) ≡ Ok tt → geo_in o.driver h.geo v size ≡ Ok geo
+    → size_in (sides_of o.outsize v.size) ≡ Ok size → band_count_in o.driver (count_of o.bands (length h.bands)) ≡ Ok tt → geo_in o.driver h.geo v size ≡ Ok geo
     → place_in o.driver geo ≡ Ok tt → fits_in o (asked_bands o h) size geo ≡ Ok tt → plan_of o h ≡ Ok (planned_by o h v size geo)
 unfolding plan_of
 planned o h asked v size geo known asks window inside sized few places place held =
@@ -52,7 +52,7 @@ planned o h asked v size geo known asks window inside sized few places place hel
     (then_ok (window_in asked) v _ _ window
     (then_ok (inside_in o.epo o.eco v h.size) tt _ _ inside
     (then_ok (size_in (sides_of o.outsize v.size)) size _ _ sized
-    (then_ok (count_in o.driver (count_of o.bands (length h.bands))) tt _ _ few
+    (then_ok (band_count_in o.driver (count_of o.bands (length h.bands))) tt _ _ few
     (then_ok (geo_in o.driver h.geo v size) geo _ _ places
     (then_ok (place_in o.driver geo) tt _ _ place
     (then_ok (fits_in o (asked_bands o h) size geo) tt _ _ held refl))))))))

@@ -8,7 +8,7 @@ use Rattle.catalog.specs.Dataset.{DatasetHead}
 use Rattle.catalog.specs.Drivers.{Dataset}
 use Rattle.catalog.specs.Heads.{kind_in, file_in, header_in, long_enough, raw_in, dataset_by, dataset_in, head_in}
 use Rattle.catalog.specs.Pixels.{pixel_of_name}
-use Rattle.catalog.specs.Walk.{Met, sources_in, unless_on, room_for, met_or_first, number_of, visit, visit_step, visit_sources, first_met, met_in, walked}
+use Rattle.catalog.specs.Walk.{Met, sources_in, unless_on, room_for, met_or_first, dataset_number_in, visit, visit_step, visit_sources, first_met, met_at_first, walked}
 use Rattle.catalog.specs.declared.driver.Found.{Found}
 use Rattle.catalog.specs.declared.faults.WalkFault.{WalkFault}
 use Rattle.catalog.specs.declared.kind.Kind.{Kind}
@@ -69,12 +69,12 @@ abbrev below : Files → Bool → List (List ℕ) → Met → List ℕ → Resul
 below m verify path met name = visit m verify 15 path met name
 
 abbrev only : Dataset → Met
-only d = record { datasets = [] ++ d ∷ []; sources = (met_in []).sources }
+only d = record { datasets = [] ++ d ∷ []; sources = (met_at_first []).sources }
 
 raw_walked : (m : Files) (verify : Bool) (name : List ℕ) (d : Dataset) → kind_in name ≡ Ok kinds.Raw → dataset_by kinds.Raw m verify name ≡ Ok d → walked m verify [] name ≡ Ok (d ∷ [])
 unfolding walked visit_step first_met
 raw_walked m verify name d kind read =
-    ap (λ (r : Result Kind WalkFault). (r >>= λ k. unless_on [] name >>= λ free. room_for 16 k name >>= λ shallow. met_or_first (below m verify) m verify 16 k [] (met_in []) name (number_of [] name)) >>= λ met. Ok met.datasets) kind
+    ap (λ (r : Result Kind WalkFault). (r >>= λ k. unless_on [] name >>= λ free. room_for 16 k name >>= λ shallow. met_or_first (below m verify) m verify 16 k [] (met_at_first []) name (dataset_number_in [] name)) >>= λ met. Ok met.datasets) kind
     ∙ ap (λ (r : Result Dataset WalkFault). (r >>= λ x. visit_sources (below m verify (name ∷ [])) name (only x) (sources_in x.content)) >>= λ met. Ok met.datasets) read
     ∙ ap (λ (ss : List SourceValue). visit_sources (below m verify (name ∷ [])) name (only d) ss >>= λ met. Ok met.datasets) (raw_alone m verify name d read)
 

@@ -15,12 +15,12 @@ use Rattle.geotransform.specs.declared.types.Size.{Size}
 use Rattle.geotransform.proofs.RoundTrip.{decimal_word, short_word}
 use Rattle.vrt_markup.specs.Items.{Pair}
 use Rattle.vrt_profile.specs.Values.{trillion, IsOffset, Rectangle, IsRectangle, SourceValue, IsSource, BandValue, IsBand, DocumentValue, IsDocument, IsDecimal}
-use Rattle.vrt_writing.specs.Spelled.{Markup, nothing, both, words, empty, group, written, indent, tag_text, pair_text, end_text, escape, escaped, micro_text, part_text, joined_text, geo_text, flag_text, pair, file_markup, source_band_markup, rectangle_pairs, rectangle_markup, nodata_markup, scale_markup, lut_markup, place_markup, scaling_markup, source_tag, source_markup, sources_markup, band_pairs, band_markup, geo_markup, size_pairs, parts_markup, spelled}
+use Rattle.vrt_writing.specs.Spelled.{Markup, nothing, both, words, empty, group, markup_text, indent, tag_text, pair_text, end_text, escape, escaped, micro_text, part_text, joined_text, geo_text, flag_text, pair, file_markup, source_band_markup, rectangle_pairs, rectangle_markup, nodata_markup, scale_markup, lut_markup, place_markup, scaling_markup, source_tag, source_markup, sources_markup, band_pairs, band_markup, geo_markup, size_pairs, parts_markup, spelled}
 use Rattle.vrt_profile.specs.declared.rectangle.LutPair.{LutPair}
 
 -- the text of markup has at most so many bytes
 pub record IsWithin (k level : ℕ) (m : Markup) : Type 0 where
-  pub long : length (written level m) ≤ k
+  pub long : length (markup_text level m) ≤ k
 
 -- so has that of attributes
 pub record AreWithin (k : ℕ) (pairs : List Pair) : Type 0 where
@@ -52,7 +52,7 @@ wider i j level m less within = record { long = let long = within.long in omega 
 
 both_within : (i j level : ℕ) (a b : Markup) → IsWithin i level a → IsWithin j level b → IsWithin (i + j) level (both a b)
 both_within i j level a b first second = record {
-  long = let first_long = first.long in let second_long = second.long in omega (arith, first_long, second_long, length-append (written level a) (written level b));
+  long = let first_long = first.long in let second_long = second.long in omega (arith, first_long, second_long, length-append (markup_text level a) (markup_text level b));
 }
 
 words_within : (i j level : ℕ) (name : List ℕ) (pairs : List Pair) (text : List ℕ) → level ≤ 4 → length name ≤ 40 → AreWithin i pairs → length text ≤ j → IsWithin (i + j + 100) level (words name pairs text)
@@ -71,7 +71,7 @@ group_within i k level name pairs inside low few known within = record {
       let long = known.long in
       let whole = within.long in
       let spaces : length (indent level) ≡ 2 * level = length-replicate (2 * level) 32 in
-      omega (arith, long, whole, low, few, spaces, length-append (tag_text level name pairs) (codes ">\n" ++ (written (suc level) inside ++ (indent level ++ end_text name))), length-append (written (suc level) inside) (indent level ++ end_text name), length-append (indent level) (end_text name), tag_long level name pairs, end_long name);
+      omega (arith, long, whole, low, few, spaces, length-append (tag_text level name pairs) (codes ">\n" ++ (markup_text (suc level) inside ++ (indent level ++ end_text name))), length-append (markup_text (suc level) inside) (indent level ++ end_text name), length-append (indent level) (end_text name), tag_long level name pairs, end_long name);
 }
 
 either_within : (k level : ℕ) (m : Markup) (b : Bool) → IsWithin k level m → IsWithin k level (cond b nothing m)

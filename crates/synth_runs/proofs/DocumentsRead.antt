@@ -12,7 +12,7 @@ use Rattle.geotransform.specs.declared.types.PixelType.TheVariants.{Int16}
 use Rattle.geotransform.specs.declared.types.Size.{Size}
 use Rattle.outside.specs.Names.{folder_part}
 use Rattle.vrt_profile.specs.Values.{Rectangle, IsRectangle, SourceValue, IsSource, BandValue, IsBand, DocumentValue, IsDocument, IsDecimal}
-use Rattle.vrt_profile.specs.Built.{pixels_at, plain_source}
+use Rattle.vrt_profile.specs.Built.{pixel_rectangle, plain_source}
 use Rattle.vrt_profile.specs.Cover.{whole}
 use Rattle.vrt_profile.specs.Document.{document_of}
 use Rattle.vrt_writing.specs.Spelled.{spelled}
@@ -35,7 +35,7 @@ ascii_text : (text : List ℕ) → list_all (λ c. nat_lt c 128) text ≡ true �
 ascii_text text h = IsUtf8-from_ascii text (IsAscii-from_all text (All-weaker (λ c. nat_lt c 128 ≡ true) (λ c. c < 128) is_low text (AllPass-from_list_all (λ c. nat_lt c 128) text h)))
 
 -- rectangles of whole pixels
-pixels_within : (x y w h : ℕ) → x ≤ 8192 → y ≤ 8192 → 0 < w → 0 < h → w ≤ 8192 → h ≤ 8192 → IsRectangle (pixels_at (pos x) (pos y) (pos w) (pos h))
+pixels_within : (x y w h : ℕ) → x ≤ 8192 → y ≤ 8192 → 0 < w → 0 < h → w ≤ 8192 → h ≤ 8192 → IsRectangle (pixel_rectangle (pos x) (pos y) (pos w) (pos h))
 pixels_within x y w h left top some_width some_height width height = record {
   left = omega (arith, left);
   top = omega (arith, top);
@@ -96,7 +96,7 @@ unfolding folder_part
 inner_short side dst = record { file = omega arith; table = refl }
 
 -- the source of a tile
-tile_rules : (n t x y : ℕ) → IsSide n → x ≤ 4096 → y ≤ 4096 → 0 < length (tile_name t) → IsUtf8 (tile_name t) → IsSource (plain_source (true, tile_name t) 1 (whole (record { w = n; h = n })) (pixels_at (pos x) (pos y) (pos n) (pos n)) (Some nodata))
+tile_rules : (n t x y : ℕ) → IsSide n → x ≤ 4096 → y ≤ 4096 → 0 < length (tile_name t) → IsUtf8 (tile_name t) → IsSource (plain_source (true, tile_name t) 1 (whole (record { w = n; h = n })) (pixel_rectangle (pos x) (pos y) (pos n) (pos n)) (Some nodata))
 tile_rules n t x y is left top some text =
     let some_side : 0 < n = let low = is.some in omega (arith, low) in
     let few : n ≤ 8192 = let high = is.few in omega (arith, high) in
@@ -110,10 +110,10 @@ abbrev tile_sources : ℕ → List SourceValue
 tile_sources n = map (tile_source n) (0 ∷ 1 ∷ 2 ∷ 3 ∷ [])
 
 abbrev first_source : ℕ → SourceValue
-first_source n = inner_source (2 * n) (pixels_at (pos 0) (pos 0) (pos (2 * n)) (pos (2 * n)))
+first_source n = inner_source (2 * n) (pixel_rectangle (pos 0) (pos 0) (pos (2 * n)) (pos (2 * n)))
 
 abbrev moved_source : ℕ → SourceValue
-moved_source n = inner_source n (pixels_at (pos n) (pos n) (pos n) (pos n))
+moved_source n = inner_source n (pixel_rectangle (pos n) (pos n) (pos n) (pos n))
 
 outer_kept : (n : ℕ) → IsSide n → All IsSource (outer_sources n)
 outer_kept n is =
@@ -127,7 +127,7 @@ outer_kept n is =
 
 outer_short : (n : ℕ) → All IsShort (outer_sources n)
 outer_short n =
-    let second = inner_short n (pixels_at (pos n) (pos n) (pos n) (pos n)) in
+    let second = inner_short n (pixel_rectangle (pos n) (pos n) (pos n) (pos n)) in
     All-cons IsShort (first_source n) (adding 1000 (moved_source n) ∷ [])
     (inner_short (2 * n) _)
     (All-cons IsShort (adding 1000 (moved_source n)) []

@@ -10,7 +10,7 @@ use Rattle.vrt_profile.specs.Values.{DocumentValue}
 use Rattle.catalog.specs.Dataset.{DatasetHead}
 use Rattle.catalog.specs.Drivers.{Dataset, dataset_of}
 use Rattle.catalog.specs.Heads.{kind_in, dataset_by, dataset_in}
-use Rattle.catalog.specs.Walk.{number_of, met_or_first, visit, visit_sources, sources_in, first_met, visit_step, walked, Met, met_in}
+use Rattle.catalog.specs.Walk.{dataset_number_in, met_or_first, visit, visit_sources, sources_in, first_met, visit_step, walked, Met, met_at_first}
 use Rattle.catalog.specs.declared.kind.Kind.{Kind}
 use Rattle.catalog.specs.declared.kind.Kind.TheVariants as kinds
 use Rattle.catalog.specs.declared.driver.DriverHead.TheVariants as drivers
@@ -38,20 +38,20 @@ below : (a b : ℕ) → a < b → nat_lt a b ≡ true
 below a b less = grind (arith, nat_tests)
 
 -- The walk from a name of raw data that wasn't met: the file is one dataset more, and no source leads on from it.
-first_visit : (m : Files) (verify : Bool) (more : List (List ℕ) → Met → List ℕ → Result Met WalkFault) (met : Met) (name : List ℕ) (d : Dataset) (h : Head) → kind_in name ≡ Ok kinds.Raw → number_of met.datasets name ≡ None → length met.datasets < 65536 → dataset_in m verify name ≡ Ok d → d.content ≡ File (drivers.Raw h) → visit_step more m verify 16 [] met name ≡ Ok (record { datasets = met.datasets ++ d ∷ []; sources = met.sources })
+first_visit : (m : Files) (verify : Bool) (more : List (List ℕ) → Met → List ℕ → Result Met WalkFault) (met : Met) (name : List ℕ) (d : Dataset) (h : Head) → kind_in name ≡ Ok kinds.Raw → dataset_number_in met.datasets name ≡ None → length met.datasets < 65536 → dataset_in m verify name ≡ Ok d → d.content ≡ File (drivers.Raw h) → visit_step more m verify 16 [] met name ≡ Ok (record { datasets = met.datasets ++ d ∷ []; sources = met.sources })
 unfolding visit_step first_met dataset_in
 first_visit m verify more met name d h kind fresh few read content =
     let by_kind : dataset_by kinds.Raw m verify name ≡ Ok d = ap (λ (k : Result Kind WalkFault). k >>= λ kind. dataset_by kind m verify name) (sym kind) ∙ read in
-    ap (λ (k : Result Kind WalkFault). k >>= λ kind. met_or_first more m verify 16 kind [] met name (number_of met.datasets name)) kind
+    ap (λ (k : Result Kind WalkFault). k >>= λ kind. met_or_first more m verify 16 kind [] met name (dataset_number_in met.datasets name)) kind
     ∙ ap (met_or_first more m verify 16 kinds.Raw [] met name) fresh
     ∙ ap (λ (b : Bool). cond b (Ok tt) (Err (Limit limits.Files 65537)) >>= λ room. (dataset_by kinds.Raw m verify name >>= λ d. visit_sources (more (name ∷ [])) name (record { datasets = met.datasets ++ d ∷ []; sources = met.sources }) (sources_in d.content))) (below (length met.datasets) 65536 few)
     ∙ ap (λ (r : Result Dataset WalkFault). r >>= λ d. visit_sources (more (name ∷ [])) name (record { datasets = met.datasets ++ d ∷ []; sources = met.sources }) (sources_in d.content)) by_kind
     ∙ ap (λ (c : Content). visit_sources (more (name ∷ [])) name (record { datasets = met.datasets ++ d ∷ []; sources = met.sources }) (sources_in c)) content
 
-pub raw_walked : (m : Files) (verify : Bool) (cat : List Dataset) (name : List ℕ) (d : Dataset) (h : Head) → kind_in name ≡ Ok kinds.Raw → number_of cat name ≡ None → length cat < 65536 → dataset_in m verify name ≡ Ok d → d.content ≡ File (drivers.Raw h) → walked m verify cat name ≡ Ok (cat ++ d ∷ [])
+pub raw_walked : (m : Files) (verify : Bool) (cat : List Dataset) (name : List ℕ) (d : Dataset) (h : Head) → kind_in name ≡ Ok kinds.Raw → dataset_number_in cat name ≡ None → length cat < 65536 → dataset_in m verify name ≡ Ok d → d.content ≡ File (drivers.Raw h) → walked m verify cat name ≡ Ok (cat ++ d ∷ [])
 unfolding walked
 raw_walked m verify cat name d h kind fresh few read content =
-    ap (λ (r : Result Met WalkFault). r >>= λ met. Ok met.datasets) (first_visit m verify (λ p a n. visit m verify 15 p a n) (met_in cat) name d h kind fresh few read content)
+    ap (λ (r : Result Met WalkFault). r >>= λ met. Ok met.datasets) (first_visit m verify (λ p a n. visit m verify 15 p a n) (met_at_first cat) name d h kind fresh few read content)
 
 -- raw data under the names of the tiles
 abbrev raw_of : (ℕ → Head) → (ℕ → ℕ) → ℕ → Dataset
@@ -64,7 +64,7 @@ record AreRead (m : Files) (verify : Bool) (heads : ℕ → Head) (lengths : ℕ
   each : (t : ℕ) → t < 4 → dataset_in m verify (tile_name t) ≡ Ok (raw_of heads lengths t)
 
 -- one tile more is walked
-tile_walked : (m : Files) (verify : Bool) (heads : ℕ → Head) (lengths : ℕ → ℕ) (t : ℕ) (cat : List Dataset) → AreRead m verify heads lengths → t < 4 → number_of cat (tile_name t) ≡ None → length cat < 65536 → by_walk (walked m verify cat (tile_name t)) ≡ Ok (cat ++ raw_of heads lengths t ∷ [])
+tile_walked : (m : Files) (verify : Bool) (heads : ℕ → Head) (lengths : ℕ → ℕ) (t : ℕ) (cat : List Dataset) → AreRead m verify heads lengths → t < 4 → dataset_number_in cat (tile_name t) ≡ None → length cat < 65536 → by_walk (walked m verify cat (tile_name t)) ≡ Ok (cat ++ raw_of heads lengths t ∷ [])
 tile_walked m verify heads lengths t cat read less fresh few =
     ap (λ (r : Result (List Dataset) WalkFault). by_walk r) (raw_walked m verify cat (tile_name t) (raw_of heads lengths t) (heads t) (tile_kind t less) fresh few (read.each t less) refl)
 

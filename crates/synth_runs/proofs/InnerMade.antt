@@ -14,7 +14,7 @@ use Rattle.geotransform.proofs.Floors.{half_only}
 use Rattle.esri_hdr.specs.declared.header_parts.RawGeo.{RawGeo}
 use Rattle.esri_hdr.specs.Head.{raw_geo, raw_geo_of, placed, is_origin, is_half_near}
 use Rattle.vrt_profile.specs.Values.{SourceValue, BandValue}
-use Rattle.vrt_profile.specs.Built.{pixels_at, plain_source}
+use Rattle.vrt_profile.specs.Built.{pixel_rectangle, plain_source}
 use Rattle.vrt_profile.specs.Cover.{whole}
 use Rattle.vrt_profile.specs.Resolve.{related}
 use Rattle.catalog.specs.Dataset.{DatasetHead}
@@ -22,7 +22,7 @@ use Rattle.catalog.specs.declared.kind.Kind.TheVariants.{Raw}
 use Rattle.buildvrt.specs.Tiles.{TileValue}
 use Rattle.buildvrt.specs.Judging.{judged_of, judged_alone, judged_beside}
 use Rattle.buildvrt.specs.Grids.{GridValue, IsGrid, less_of, greater_of, union_of, some_pixels, side_within, side_of, rounded_transform, grid_by, grid_of}
-use Rattle.buildvrt.specs.Rectangles.{PatchValue, rectangle_of, shown_at, patch_of, patches_of}
+use Rattle.buildvrt.specs.Rectangles.{PatchValue, rectangle_of, shown_in, patch_of, patches_of}
 use Rattle.buildvrt.specs.Bands.{all_bands, bands_within}
 use Rattle.buildvrt.specs.Mosaic.{document_on, document_by, mosaic_of, mosaic_by}
 use Rattle.buildvrt.specs.declared.options.Extent.{Extent}
@@ -304,7 +304,7 @@ grid_is n side =
 
 -- the rectangles of the tiles
 abbrev patch : ℕ → ℕ → ℕ → ℕ → PatchValue
-patch n t a b = record { head = head n t a b; shown = Some (pixels_at (pos a) (pos b) (pos n) (pos n)) }
+patch n t a b = record { head = head n t a b; shown = Some (pixel_rectangle (pos a) (pos b) (pos n) (pos n)) }
 
 abbrev patches : ℕ → List PatchValue
 patches n = patch n 0 0 0 ∷ patch n 1 n 0 ∷ patch n 2 0 n ∷ patch n 3 n n ∷ []
@@ -312,7 +312,7 @@ patches n = patch n 0 0 0 ∷ patch n 1 n 0 ∷ patch n 2 0 n ∷ patch n 3 n n 
 abbrev rect : ℕ → ℕ → ℕ → PixelRect
 rect n a b = record { x = pos a; y = pos b; w = pos n; h = pos n }
 
-shown_here : (n a b : ℕ) → IsSide n → a ≤ n → b ≤ n → shown_at (square (2 * n)) (rect n a b) ≡ Ok (Some (pixels_at (pos a) (pos b) (pos n) (pos n)))
+shown_here : (n a b : ℕ) → IsSide n → a ≤ n → b ≤ n → shown_in (square (2 * n)) (rect n a b) ≡ Ok (Some (pixel_rectangle (pos a) (pos b) (pos n) (pos n)))
 shown_here n a b side p q =
     let some = side.some in
     let few = side.few in
@@ -322,7 +322,7 @@ patch_is : (n t a b : ℕ) → IsSide n → a ≤ n → b ≤ n → patch_of (gr
 unfolding patch_of
 patch_is n t a b side p q =
     let few = side.few in
-    ap (λ (r : PixelRect). shown_at (square (2 * n)) r >>= λ shown. Ok (record { head = head n t a b; shown = shown })) (rectangle_is n n t a b side side.some (omega arith))
+    ap (λ (r : PixelRect). shown_in (square (2 * n)) r >>= λ shown. Ok (record { head = head n t a b; shown = shown })) (rectangle_is n n t a b side side.some (omega arith))
     ∙ ap (λ (r : Result _ BuildFault). r >>= λ shown. Ok (record { head = head n t a b; shown = shown })) (shown_here n a b side p q)
 
 with_one : (g : GridValue) (t : TileValue) (ts : List TileValue) (p : PatchValue) (ps : List PatchValue) → patch_of g t ≡ Ok p → patches_of g ts ≡ Ok ps → patches_of g (t ∷ ts) ≡ Ok (p ∷ ps)
@@ -337,7 +337,7 @@ patches_are n side =
 
 -- the band
 abbrev source : ℕ → ℕ → ℕ → ℕ → SourceValue
-source n t a b = plain_source (related inner_name (tile_name t)) 1 (whole (square n)) (pixels_at (pos a) (pos b) (pos n) (pos n)) (Some nodata)
+source n t a b = plain_source (related inner_name (tile_name t)) 1 (whole (square n)) (pixel_rectangle (pos a) (pos b) (pos n) (pos n)) (Some nodata)
 
 abbrev band_of_sources : List SourceValue → List BandValue
 band_of_sources sources = record { kind = Int16; nodata = Some nodata; sources = sources } ∷ []

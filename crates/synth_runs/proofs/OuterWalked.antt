@@ -8,12 +8,12 @@ use Rattle.outside.specs.Names.{extension_of, ending_of, last_part, extension_of
 use Rattle.outside.specs.Outside.{Files}
 use Rattle.outside.specs.Paths.{normal}
 use Rattle.vrt_profile.specs.Values.{Rectangle, SourceValue, DocumentValue}
-use Rattle.vrt_profile.specs.Built.{pixels_at}
+use Rattle.vrt_profile.specs.Built.{pixel_rectangle}
 use Rattle.vrt_writing.specs.Spelled.{spelled}
 use Rattle.catalog.specs.Dataset.{band_at, band_count}
 use Rattle.catalog.specs.Drivers.{Dataset, dataset_of}
 use Rattle.catalog.specs.Heads.{kind_in, document_in, vrt_in, dataset_by, dataset_in, resolved}
-use Rattle.catalog.specs.Walk.{Met, number_of, dataset_named, sources_in, one_more_source, bands_of, band_named, is_narrow_band, unless_no_band, unless_no_samples, unless_wide, again_below, again_sources, again, visit_source, visit_sources, visit, met_in, walked}
+use Rattle.catalog.specs.Walk.{Met, dataset_number_in, dataset_named, sources_in, one_more_source, bands_of, band_named, is_narrow_band, unless_no_band, unless_no_samples, unless_wide, again_below, again_sources, again, visit_source, visit_sources, visit, met_at_first, walked}
 use Rattle.catalog.specs.declared.driver.Content.TheVariants.{Mosaic}
 use Rattle.catalog.specs.declared.driver.Found.{Found}
 use Rattle.catalog.specs.declared.faults.WalkFault.{WalkFault}
@@ -157,7 +157,7 @@ module _ (n : ℕ) (m : Files) (verify : Bool) where
   record MeetsTile (ds : List Dataset) (k t : ℕ) : Type 0 where
     tile : t < 4
     few : length ds < 65536
-    fresh : number_of ds (tile_name t) ≡ None
+    fresh : dataset_number_in ds (tile_name t) ≡ None
     there : dataset_named (ds ++ tile_dataset n t ∷ []) (tile_name t) ≡ Some (tile_dataset n t)
     counted : one_more_source k ≡ Ok tt
 
@@ -246,19 +246,19 @@ module _ (n : ℕ) (m : Files) (verify : Bool)
     -- the sources of the outer mosaic
     inners_visited : visit_sources (to_inner n m verify) outer_name (state (outer_dataset n ∷ []) 0) (sources_in (outer_dataset n).content) ≡ Ok (state (outer_datasets n) 6)
     inners_visited =
-        let whole = inner_source (2 * n) (pixels_at (pos 0) (pos 0) (pos (2 * n)) (pos (2 * n))) in
-        let part = adding 1000 (inner_source n (pixels_at (pos n) (pos n) (pos n) (pos n))) in
+        let whole = inner_source (2 * n) (pixel_rectangle (pos 0) (pos 0) (pos (2 * n)) (pos (2 * n))) in
+        let part = adding 1000 (inner_source n (pixel_rectangle (pos n) (pos n) (pos n) (pos n))) in
         let takes = λ (plain : Bool). takes_first (outer_datasets n) outer_name inner_name (inner_dataset n) plain refl (inner_banded n) (inner_narrow n) in
-        let once = source_fine (to_inner n m verify) outer_name (state (outer_dataset n ∷ []) 0) whole inner_name (state (outer_datasets n) 5) refl (inner_resolved (2 * n) (pixels_at (pos 0) (pos 0) (pos (2 * n)) (pos (2 * n)))) inner_visited (takes (is_plain whole)) in
-        let twice = source_fine (to_inner n m verify) outer_name (state (outer_datasets n) 5) part inner_name (state (outer_datasets n) 6) refl (adding_resolved 1000 n (pixels_at (pos n) (pos n) (pos n) (pos n))) inner_met (takes (is_plain part)) in
+        let once = source_fine (to_inner n m verify) outer_name (state (outer_dataset n ∷ []) 0) whole inner_name (state (outer_datasets n) 5) refl (inner_resolved (2 * n) (pixel_rectangle (pos 0) (pos 0) (pos (2 * n)) (pos (2 * n)))) inner_visited (takes (is_plain whole)) in
+        let twice = source_fine (to_inner n m verify) outer_name (state (outer_datasets n) 5) part inner_name (state (outer_datasets n) 6) refl (adding_resolved 1000 n (pixel_rectangle (pos n) (pos n) (pos n) (pos n))) inner_met (takes (is_plain part)) in
         ap (visit_sources (to_inner n m verify) outer_name (state (outer_dataset n ∷ []) 0)) (outer_sources_are n)
         ∙ sources_then (to_inner n m verify) outer_name (state (outer_dataset n ∷ []) 0) (state (outer_datasets n) 5) whole (part ∷ []) (Ok (state (outer_datasets n) 6)) once
         (sources_then (to_inner n m verify) outer_name (state (outer_datasets n) 5) (state (outer_datasets n) 6) part [] (Ok (state (outer_datasets n) 6)) twice refl)
 
-    outer_visited : visit m verify 16 [] (met_in []) outer_name ≡ Ok (state (outer_datasets n) 6)
+    outer_visited : visit m verify 16 [] (met_at_first []) outer_name ≡ Ok (state (outer_datasets n) 6)
     outer_visited =
-        let first : IsFirst 16 [] (met_in []) outer_name Vrt = record { kind_is = outer_kind; off = refl; shallow = refl; fresh = refl } in
-        visit_mosaic m verify 15 [] (met_in []) outer_name Vrt (outer_dataset n) first (omega arith) outer_by
+        let first : IsFirst 16 [] (met_at_first []) outer_name Vrt = record { kind_is = outer_kind; off = refl; shallow = refl; fresh = refl } in
+        visit_mosaic m verify 15 [] (met_at_first []) outer_name Vrt (outer_dataset n) first (omega arith) outer_by
         ∙ inners_visited
 
     pub outer_is_walked : walked m verify [] outer_name ≡ Ok (outer_datasets n)

@@ -8,7 +8,7 @@ use Rattle.catalog.specs.Outcomes as outcomes
 use Rattle.catalog.specs.Dataset.{DatasetHead}
 use Rattle.catalog.specs.Drivers.{Dataset}
 use Rattle.catalog.specs.Heads.{dataset_in}
-use Rattle.catalog.specs.Walk.{number_of, walked, IsCatalog, IsDataset, IsWalked}
+use Rattle.catalog.specs.Walk.{dataset_number_in, walked, IsCatalog, IsDataset, IsWalked}
 use Rattle.catalog.specs.declared.faults.WalkFault.{WalkFault}
 use Rattle.catalog.proofs.Found.{found, name_at, of_item}
 use Rattle.error_lines.specs.declared.faults.Fault.{Fault}
@@ -20,7 +20,7 @@ use Rattle.synth_runs.specs.Runs.{copied}
 use Rattle.synth_runs.specs.Tallied.{IsCopied}
 
 -- what a walk from no dataset met under the copy's name is the copy
-pub copied_is : (m : Files) (old cat : List Dataset) (name : List ℕ) (id : ℕ) (d : Dataset) → name ≡ output_name → old ≡ [] → walked m false old name ≡ Ok cat → (IsWalked m old → IsWalked m cat) → number_of cat name ≡ Some id → slice_get cat id ≡ Some d → copied m ≡ Ok d
+pub copied_is : (m : Files) (old cat : List Dataset) (name : List ℕ) (id : ℕ) (d : Dataset) → name ≡ output_name → old ≡ [] → walked m false old name ≡ Ok cat → (IsWalked m old → IsWalked m cat) → dataset_number_in cat name ≡ Some id → slice_get cat id ≡ Some d → copied m ≡ Ok d
 unfolding copied
 copied_is m old cat name id d named empty walk more number at =
     let read : dataset_in m false output_name ≡ Ok d = subst (λ (n : List ℕ). dataset_in m false n ≡ Ok d) named (walked_read m old cat name id d empty more at (name_at cat name id d number at)) in
@@ -41,7 +41,7 @@ copied_refused m old name w f named empty is h =
     (after_walk m (fault_of w) (by_walk (walked m false [] output_name)) (outside_walk w (walked m false [] output_name) here))
 
 -- a dataset of a catalog has a size and a band
-pub is_copied : (cat : List Dataset) (name : List ℕ) (id : ℕ) (head : DatasetHead) → IsCatalog cat → number_of cat name ≡ Some id → option_map (λ (d : Dataset). d.head) (slice_get cat id) ≡ Some head → IsCopied cat id head.size
+pub is_copied : (cat : List Dataset) (name : List ℕ) (id : ℕ) (head : DatasetHead) → IsCatalog cat → dataset_number_in cat name ≡ Some id → option_map (λ (d : Dataset). d.head) (slice_get cat id) ≡ Some head → IsCopied cat id head.size
 is_copied cat name id head valid number told =
     let d = found cat name id number in
     let same : d.dataset.head ≡ head = told_of (λ (x : Dataset). x.head) cat id d.dataset head d.at told in

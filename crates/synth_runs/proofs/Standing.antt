@@ -7,7 +7,7 @@ use Rattle.geotransform.specs.declared.types.PixelType.TheVariants.{Int16}
 use Rattle.esri_hdr.specs.Text.{hdr_text}
 use Rattle.esri_hdr.specs.declared.header_parts.Layout.TheVariants.{Bil}
 use Rattle.vrt_profile.specs.Values.{SourceValue, BandValue, DocumentValue}
-use Rattle.vrt_profile.specs.Built.{pixels_at, plain_source}
+use Rattle.vrt_profile.specs.Built.{pixel_rectangle, plain_source}
 use Rattle.vrt_profile.specs.Cover.{whole}
 use Rattle.vrt_profile.specs.Resolve.{related}
 use Rattle.vrt_writing.specs.Spelled.{spelled}
@@ -35,7 +35,7 @@ tile_heads n = map (λ t. (tile_dataset n t).head) (0 ∷ 1 ∷ 2 ∷ 3 ∷ [])
 
 -- the mosaic of the tiles
 abbrev pub tile_source : ℕ → ℕ → SourceValue
-tile_source n t = plain_source (related inner_name (tile_name t)) 1 (whole (record { w = n; h = n })) (pixels_at (pos (t % 2 * n)) (pos (t / 2 * n)) (pos n) (pos n)) (Some nodata)
+tile_source n t = plain_source (related inner_name (tile_name t)) 1 (whole (record { w = n; h = n })) (pixel_rectangle (pos (t % 2 * n)) (pos (t / 2 * n)) (pos n) (pos n)) (Some nodata)
 
 abbrev pub tile_bands : ℕ → List BandValue
 tile_bands n = record { kind = Int16; nodata = Some nodata; sources = map (tile_source n) (0 ∷ 1 ∷ 2 ∷ 3 ∷ []) } ∷ []

@@ -10,12 +10,12 @@ use Rattle.catalog.specs.Drivers.{Dataset}
 use Rattle.catalog.proofs.Found.{some_is}
 use Rattle.catalog.specs.Pixels.{pixel_of_name}
 use Rattle.catalog.specs.Places.{row_by_row}
-use Rattle.nearest_window.specs.Shown.{IsInBand}
+use Rattle.nearest_window.specs.Windows.{IsInBand}
 use Rattle.strip_copies.specs.Copies.{lines_rect}
 use Rattle.synthetic_rasters.specs.Tally.{Totals, tally_of, tally_text}
 use Rattle.synthetic_rasters.proofs.Tallied.{count_few}
 use Rattle.synth_runs.specs.Runs.{samples_of}
-use Rattle.synth_runs.specs.Tallied.{lines_of, AreTallied, IsCopied}
+use Rattle.synth_runs.specs.Tallied.{first_band_lines, AreTallied, IsCopied}
 
 first_of : {X : Type 0} (xs : List X) → 0 < length xs → (x : X) × (slice_get xs 0 ≡ Some x)
 first_of [] some = absurd (omega (arith, some))
@@ -54,7 +54,7 @@ none_tallied told cat id size t is = record {
   tallied = λ m d tells at. is ∙ ap tally_of (no_lines (pixel_of_name m d.head.name 0) size);
 }
 
-pub all_lines : (m : Files) (d : Dataset) (size : Size) → d.head.size ≡ size → lines_of m d.head.name size 0 size.h ≡ samples_of m d
+pub all_lines : (m : Files) (d : Dataset) (size : Size) → d.head.size ≡ size → first_band_lines m d.head.name size 0 size.h ≡ samples_of m d
 all_lines m d size is =
     let f = pixel_of_name m d.head.name 0 in
     let down : size.h - 0 ≡ size.h = omega arith in
@@ -64,7 +64,7 @@ all_lines m d size is =
 -- lines behind those that were tallied
 pub tallied_more : (told now : Option Files) (cat : List Dataset) (id : ℕ) (size : Size) (first end : ℕ) (old new : Totals) (samples : List ℤ)
     → now ≡ told → first ≤ end → length samples ≡ size.w * (end - first)
-    → ((m : Files) → told ≡ Some m → (d : Dataset) → slice_get cat id ≡ Some d → samples ≡ lines_of m d.head.name size first end)
+    → ((m : Files) → told ≡ Some m → (d : Dataset) → slice_get cat id ≡ Some d → samples ≡ first_band_lines m d.head.name size first end)
     → ((seen : List ℤ) → old ≡ tally_of seen → new ≡ tally_of (seen ++ samples)) → new.count ≤ old.count + length samples
     → AreTallied told cat id size first old → AreTallied now cat id size end new
 tallied_more told now cat id size first end old new samples same low long are added count before = record {
@@ -72,13 +72,13 @@ tallied_more told now cat id size first end old new samples same low long are ad
   tallied = λ m d tells at.
       let here : told ≡ Some m = sym same ∙ tells in
       let f = pixel_of_name m d.head.name 0 in
-      added (lines_of m d.head.name size 0 first) (before.tallied m d here at)
-      ∙ ap (λ (l : List ℤ). tally_of (lines_of m d.head.name size 0 first ++ l)) (are m here d at)
+      added (first_band_lines m d.head.name size 0 first) (before.tallied m d here at)
+      ∙ ap (λ (l : List ℤ). tally_of (first_band_lines m d.head.name size 0 first ++ l)) (are m here d at)
       ∙ ap tally_of (lines_joined f size first end low);
 }
 
 -- the text that is told of a tally of all lines is that of the dataset
-pub told_as : (m : Files) (cat : List Dataset) (id : ℕ) (size : Size) (d : Dataset) (t : Totals) (text : List ℕ) → IsCopied cat id size → slice_get cat id ≡ Some d → t ≡ tally_of (lines_of m d.head.name size 0 size.h) → text ≡ tally_text size t → text ≡ tally_text d.head.size (tally_of (samples_of m d))
+pub told_as : (m : Files) (cat : List Dataset) (id : ℕ) (size : Size) (d : Dataset) (t : Totals) (text : List ℕ) → IsCopied cat id size → slice_get cat id ≡ Some d → t ≡ tally_of (first_band_lines m d.head.name size 0 size.h) → text ≡ tally_text size t → text ≡ tally_text d.head.size (tally_of (samples_of m d))
 told_as m cat id size d t text is at tallied told =
     let one : is.dataset ≡ d = some_is (sym is.at ∙ at) in
     let sized : d.head.size ≡ size = ap (λ (x : Dataset). x.head.size) (sym one) ∙ is.sized in

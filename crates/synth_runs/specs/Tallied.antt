@@ -19,12 +19,12 @@ pub record IsCopied (cat : List Dataset) (id : ℕ) (size : Size) : Type 0 where
   pub banded : 0 < band_count dataset.head
 
 -- lines of the first band of the dataset of a name, from one up to another
-abbrev pub lines_of : Files → List ℕ → Size → ℕ → ℕ → List ℤ
-lines_of m name size first end = row_by_row (pixel_of_name m name 0) (lines_rect size first end)
+abbrev pub first_band_lines : Files → List ℕ → Size → ℕ → ℕ → List ℤ
+first_band_lines m name size first end = row_by_row (pixel_of_name m name 0) (lines_rect size first end)
 
 -- the first lines were tallied; over a folder that tells its files they are those of the dataset of this number
 pub record AreTallied (told : Option Files) (cat : List Dataset) (id : ℕ) (size : Size) (end : ℕ) (t : Totals) : Type 0
   where
     pub few : t.count ≤ size.w * end
     pub tallied : (m : Files) (d : Dataset) → told ≡ Some m → slice_get cat id ≡ Some d →
-        t ≡ tally_of (lines_of m d.head.name size 0 end)
+        t ≡ tally_of (first_band_lines m d.head.name size 0 end)

@@ -6,11 +6,11 @@ ghost use Rattle.outside.specs.Reading.{WhereTold};
 ghost use Rattle.catalog.specs.Drivers.{Dataset};
 ghost use Rattle.catalog.specs.Walk.{IsWalked};
 ghost use Rattle.nearest_window.specs.Right.{IsFresh, IsReady};
-ghost use Rattle.nearest_window.specs.Shown.{IsWindow};
+ghost use Rattle.nearest_window.specs.Windows.{IsWindow};
 ghost use Rattle.strip_copies.specs.Copies.{lines_rect};
 ghost use Rattle.output_copies.specs.Copying.{MayEnd};
 ghost use Rattle.synthetic_rasters.specs.Tally.{tally_of};
-ghost use Rattle.synth_runs.specs.Tallied.{lines_of, AreTallied, IsCopied};
+ghost use Rattle.synth_runs.specs.Tallied.{first_band_lines, AreTallied, IsCopied};
 ghost use Rattle.strip_copies.specs.Heights.{most_samples};
 
 use band_blocks::Counter;
@@ -101,7 +101,7 @@ fn read_strip<F: Folder, L: Ledger>(
     requires long { length samples.old ≡ copied.now.size.w * (strip.end - strip.first) }
     ensures samples { WhereTold F.Folder folder.old (λ m. (d : Dataset) →
         slice_get copied.now.cat copied.now.id ≡ Some d →
-        OnOk result (samples.new ≡ lines_of m d.head.name copied.now.size strip.first strip.end)) }
+        OnOk result (samples.new ≡ first_band_lines m d.head.name copied.now.size strip.first strip.end)) }
     ensures near { OnOk result (All (λ n. unsigned_abs n < 2 ^ 64) samples.new) }
     ensures long { length samples.new ≡ length samples.old }
     ensures ready { IsReady F.Folder folder.new copied.now.cat pixels.new.lane }
@@ -212,7 +212,7 @@ pub fn tally_copied<F: Folder, L: Ledger>(
     requires some { 0 < blank.parts }
     ensures tally { WhereTold F.Folder folder.old (λ m. (d : Dataset) →
         slice_get copied.now.cat copied.now.id ≡ Some d →
-        IfOk result (λ t. t ≡ tally_of (lines_of m d.head.name copied.now.size 0 copied.now.size.h))) }
+        IfOk result (λ t. t ≡ tally_of (first_band_lines m d.head.name copied.now.size 0 copied.now.size.h))) }
     ensures names { F.names folder.new ≡ F.names folder.old }
     ensures ends { MayEnd (F.names folder.old) (F.faults folder.old) (F.faults folder.new) 0 0 result }
 {

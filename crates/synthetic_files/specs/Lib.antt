@@ -1,1 +1,2 @@
+-- What private clauses, views and proofs speak of.
 pub mod Publishing

@@ -5,7 +5,7 @@ use Rattle.geotransform.specs.Print.{unit}
 use Rattle.geotransform.specs.declared.types.PixelType.TheVariants.{Int16}
 use Rattle.vrt_profile.specs.Values.{Rectangle, SourceValue, BandValue, DocumentValue, trillion}
 use Rattle.vrt_profile.specs.Resolve.{related}
-use Rattle.vrt_profile.specs.Built.{pixels_at, plain_source}
+use Rattle.vrt_profile.specs.Built.{pixel_rectangle, plain_source}
 use Rattle.synthetic_rasters.specs.Names.{inner_name, outer_name}
 use Rattle.synthetic_rasters.specs.Tiles.{nodata}
 
@@ -26,14 +26,14 @@ adding more s = record {
 
 -- the source that shows the square of this side in the upper left corner of the inner mosaic in another place
 abbrev pub inner_source : ℕ → Rectangle → SourceValue
-inner_source side dst = plain_source (related outer_name inner_name) 1 (pixels_at (pos 0) (pos 0) (pos side) (pos side))
-    dst (Some nodata)
+inner_source side dst = plain_source (related outer_name inner_name) 1
+    (pixel_rectangle (pos 0) (pos 0) (pos side) (pos side)) dst (Some nodata)
 
 -- The sources of the outer mosaic of tiles with side n: the whole of the inner mosaic, and over its lower right quarter
 -- the upper left one with 1000 added.
 abbrev pub outer_sources : ℕ → List SourceValue
-outer_sources n = inner_source (2 * n) (pixels_at (pos 0) (pos 0) (pos (2 * n)) (pos (2 * n)))
-    ∷ adding 1000 (inner_source n (pixels_at (pos n) (pos n) (pos n) (pos n)))
+outer_sources n = inner_source (2 * n) (pixel_rectangle (pos 0) (pos 0) (pos (2 * n)) (pos (2 * n)))
+    ∷ adding 1000 (inner_source n (pixel_rectangle (pos n) (pos n) (pos n) (pos n)))
     ∷ []
 
 -- the place of a mosaic of the tiles

@@ -59,6 +59,6 @@ unfoldable pub tiles_files : ℕ → List (List ℕ × List ℕ)
 tiles_files n = flat_map (tile_files n) (range_with_len 0 4)
 
 -- a line of a tile of this side, as it is kept between two lines: its bytes
-pub record Line : Type 0 where
+pub record LineOfTile : Type 0 where
   pub side : ℕ
   pub bytes : List ℕ

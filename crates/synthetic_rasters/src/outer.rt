@@ -1,6 +1,6 @@
 // The outer mosaic.
 ghost use Rattle.std.specs.Prelude.{◌≡◌, pos, ◌*◌, ◌≤◌, ◌<◌, true, IfOk};
-ghost use Rattle.vrt_profile.specs.Built.{pixels_at};
+ghost use Rattle.vrt_profile.specs.Built.{pixel_rectangle};
 ghost use Rattle.synthetic_rasters.specs.Outer.{adding, inner_source, outer_sources, outer_bands, outer_place};
 ghost use Rattle.synthetic_rasters.specs.Outer.{outer_document};
 ghost use Rattle.synthetic_rasters.specs.Tiles.{most_tile_side};
@@ -16,7 +16,7 @@ fn square(at: u32, side: u32) -> MicroRect
     requires at { at ≤ 8192 }
     requires some { 0 < side }
     requires few { side ≤ 8192 }
-    ensures rect { result ≡ pixels_at (pos at) (pos at) (pos side) (pos side) }
+    ensures rect { result ≡ pixel_rectangle (pos at) (pos at) (pos side) (pos side) }
 {
     let (at, side) = (at as i128, side as i128);
     pixel_rect(at, at, side, side)

@@ -103,9 +103,9 @@ pub struct TileLine {
 
 impl Model for TileLine {
     ghost use Rattle.std.specs.Prelude.{◌≡◌, ◌*◌, length};
-    ghost use Rattle.synthetic_rasters.specs.Tiles.{Line};
+    ghost use Rattle.synthetic_rasters.specs.Tiles.{LineOfTile};
 
-    ghost Value = { Line };
+    ghost Value = { LineOfTile };
 
     ghost view = { λ l. record { side = l.side; bytes = l.bytes.items } };
 

@@ -11,14 +11,14 @@ use Rattle.outside.specs.Outside.{Files}
 use Rattle.outside.specs.Paths.{IsName, normal}
 use Rattle.vrt_profile.specs.Values.{SourceValue, BandValue, DocumentValue}
 use Rattle.vrt_profile.specs.Cover.{axis_at, lines_of, cover_of}
-use Rattle.vrt_profile.specs.Value.{value_of, given_of, mosaic_pixel}
+use Rattle.vrt_profile.specs.Value.{source_value, given_of, mosaic_pixel}
 use Rattle.vrt_profile.specs.Resolve.{related, resolved_text}
 use Rattle.catalog.specs.Dataset.{DatasetHead}
 use Rattle.catalog.specs.Drivers.{Dataset, document_of}
 use Rattle.catalog.specs.Heads.{dataset_in}
 use Rattle.catalog.specs.Mosaics.{name_of_text, source_name}
-use Rattle.catalog.specs.Walk.{IsCatalog, IsWalked, number_of}
-use Rattle.catalog.specs.Links.{source_at, member_of}
+use Rattle.catalog.specs.Walk.{IsCatalog, IsWalked, dataset_number_in}
+use Rattle.catalog.specs.Links.{source_at, member_in}
 use Rattle.catalog.specs.Pixels.{pixel_of, pixel_of_name, AreOfMembers}
 use Rattle.catalog.proofs.Found.{name_at}
 use Rattle.catalog.proofs.Walked.{dataset_walked}
@@ -53,15 +53,15 @@ cover_is p base name b size i j across down =
 
 -- a source that changes no pixel gives it, or nothing where there is none
 given_by : (p : Planned) (base name : List ℕ) (b : OutBand) (inside : Bool) (c r : ℕ) (pixels : ℕ → ℕ → ℤ)
-    → unwrap_or (option_map (clamp b.kind) (option_or None (cond inside (both_of c r) None >>= λ place. value_of (shown_source p base name b) (pixels place.0 place.1)))) (unwrap_or b.nodata (pos 0)) ≡ cond inside (clamp b.kind (pixels c r)) (unwrap_or b.nodata (pos 0))
-unfolding value_of
+    → unwrap_or (option_map (clamp b.kind) (option_or None (cond inside (both_of c r) None >>= λ place. source_value (shown_source p base name b) (pixels place.0 place.1)))) (unwrap_or b.nodata (pos 0)) ≡ cond inside (clamp b.kind (pixels c r)) (unwrap_or b.nodata (pos 0))
+unfolding source_value
 given_by p base name b true c r pixels = refl
 given_by p base name b false c r pixels = refl
 
 band_is : (p : Planned) (base name : List ℕ) (b : OutBand) (size : Size) (pixels : ℕ → ℕ → ℤ) (i j : ℕ) → i < p.size.w → j < p.size.h
     → mosaic_pixel (shown_band p base name b) (λ s. given_of s p.size size pixels) i j ≡ cond (is_in_raster size (shown_column p i) (shown_line p j)) (clamp b.kind (pixels (unsigned_abs (shown_column p i)) (unsigned_abs (shown_line p j)))) (unwrap_or b.nodata (pos 0))
 band_is p base name b size pixels i j across down =
-    ap (λ (o : Option (ℕ × ℕ)). unwrap_or (option_map (clamp b.kind) (option_or None (o >>= λ place. value_of (shown_source p base name b) (pixels place.0 place.1)))) (unwrap_or b.nodata (pos 0))) (cover_is p base name b size i j across down)
+    ap (λ (o : Option (ℕ × ℕ)). unwrap_or (option_map (clamp b.kind) (option_or None (o >>= λ place. source_value (shown_source p base name b) (pixels place.0 place.1)))) (unwrap_or b.nodata (pos 0))) (cover_is p base name b size i j across down)
     ∙ given_by p base name b (is_in_raster size (shown_column p i) (shown_line p j)) (unsigned_abs (shown_column p i)) (unsigned_abs (shown_line p j)) pixels
 
 -- the one item of a list
@@ -88,8 +88,8 @@ source_is d p h k n b document at =
     ∙ ap (λ (o : Option BandValue). o >>= λ v. slice_get v.sources n) (slice_get-map (shown_band p d.head.name h.name) p.bands k ∙ ap (option_map (shown_band p d.head.name h.name)) at)
 
 -- The dataset that this source names is that of the plan.
-member_named : (resolves : Resolves) (cat : List Dataset) (d : Dataset) (p : Planned) (h : DatasetHead) (t : ℕ) (b : OutBand) (s : SourceValue) → IsName h.name → s ≡ shown_source p d.head.name h.name b → member_of cat d.head.name s ≡ Some t → number_of cat h.name ≡ Some t
-member_named resolves cat d p h t b s name same is = sym (ap (member_of cat d.head.name) same ∙ ap (option_and_then (number_of cat)) (named resolves p d.head.name h.name b name)) ∙ is
+member_named : (resolves : Resolves) (cat : List Dataset) (d : Dataset) (p : Planned) (h : DatasetHead) (t : ℕ) (b : OutBand) (s : SourceValue) → IsName h.name → s ≡ shown_source p d.head.name h.name b → member_in cat d.head.name s ≡ Some t → dataset_number_in cat h.name ≡ Some t
+member_named resolves cat d p h t b s name same is = sym (ap (member_in cat d.head.name) same ∙ ap (option_and_then (dataset_number_in cat)) (named resolves p d.head.name h.name b name)) ∙ is
 
 head_is : (m : Files) (cat : List Dataset) (h : DatasetHead) (t : ℕ) (e source : Dataset) → IsWalked m cat → slice_get cat t ≡ Some e → e.head.name ≡ h.name → dataset_in m false h.name ≡ Ok source → source.head ≡ h → e.head ≡ h
 head_is m cat h t e source walked there name told is =
@@ -100,7 +100,7 @@ of_member : (resolves : Resolves) (m : Files) (cat : List Dataset) (d : Dataset)
     → AreOfMembers m cat d k (λ s. h.size) (λ s x y. pixel_of_name m h.name b.source x y)
 of_member resolves m cat d p h k b is walked document shows at n t s e stands member there =
     let same : s ≡ shown_source p d.head.name h.name b = lone (shown_source p d.head.name h.name b) s n (sym (source_is d p h k n b document at) ∙ stands) in
-    let found : number_of cat h.name ≡ Some t = member_named resolves cat d p h t b s shows.name same member in
+    let found : dataset_number_in cat h.name ≡ Some t = member_named resolves cat d p h t b s shows.name same member in
     let name : e.head.name ≡ h.name = name_at cat h.name t e found there in
     let head : e.head ≡ h = head_is m cat h t e shows.source walked there name shows.told shows.head in
     let number : s.band ≡ b.source + 1 = ap (λ (x : SourceValue). x.band) same in

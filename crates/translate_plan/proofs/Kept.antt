@@ -24,10 +24,11 @@ use Rattle.translate_plan.specs.declared.band.OutBand.{OutBand}
 use Rattle.translate_plan.specs.declared.window.Asked.{Asked}
 use Rattle.translate_plan.specs.declared.window.Window.{Window}
 use Rattle.translate_plan.specs.Options.{Options, IsOptions}
-use Rattle.translate_plan.specs.Window.{asked_in, is_empty, is_large, is_far, window_in, inside_in, sides_of, size_in, IsWindow}
+use Rattle.translate_plan.specs.Window.{asked_in, is_empty, is_large, is_far, window_in, inside_in, sides_of, size_in}
+use Rattle.translate_plan.specs.Limits.{IsWindow, AreKnown}
 use Rattle.geotransform.specs.Limits.{farthest}
-use Rattle.translate_plan.specs.Fits.{own_nodata, is_single, count_in, geo_in, place_in, holds_geo, holds_name, takes_kind, is_int16, holds_kinds, takes_number, takes_nodata}
-use Rattle.translate_plan.specs.Bands.{all_known, AreKnown, count_of, band_type_of, nodata_of, out_band_at, band_by, bands_by, same_nodata, agree, is_bare, asked_bands, out_bands, source_band, source_number_at}
+use Rattle.translate_plan.specs.Fits.{own_nodata, is_single, band_count_in, geo_in, place_in, holds_geo, holds_name, takes_kind, is_int16, holds_kinds, takes_number, takes_nodata}
+use Rattle.translate_plan.specs.Bands.{all_known, count_of, band_type_of, nodata_of, out_band_at, nodata_band_by, bands_by, same_nodata, agree, is_bare, asked_bands, out_bands, source_band, source_number_at}
 use Rattle.translate_plan.proofs.Rounded.{places_kept}
 use Rattle.translate_plan.specs.Plan.{Planned, fits, fits_in, plan_of, planned_by, IsOutBand, IsAlike, BandsHold, IsPlan}
 
@@ -98,7 +99,7 @@ size_is s size e =
     subst IsRaster (ok_same _ size _ refl second.1) (side_bounds (pos s.0) (pos s.1) first.0 second.0)
 
 -- the number of bands
-count_is : (driver : Driver) (n : ℕ) (u : Unit {0}) → count_in driver n ≡ Ok u → (n ≤ 256) × (is_single driver ≡ true → n ≤ 1)
+count_is : (driver : Driver) (n : ℕ) (u : Unit {0}) → band_count_in driver n ≡ Ok u → (n ≤ 256) × (is_single driver ≡ true → n ≤ 1)
 count_is driver n u e =
     let first = passed (nat_lt 256 n) _ _ u e in
     let second = passed (nat_lt 1 n && is_single driver) _ _ u first.1 in
@@ -169,7 +170,7 @@ all_by P f n h = λ k d below.
 number_taken : (own : Option ℤ) (word : NodataWord) (driver : Driver) (n : ℤ) (bands : List OutBand) → own_nodata driver ≡ None → word ≡ Number n → takes_nodata driver word bands ≡ true → takes_number None n bands ≡ true
 number_taken own word driver n bands e is takes = ap (λ m. takes_number m n bands) (sym e) ∙ ap (λ w. takes_nodata driver w bands) (sym is) ∙ takes
 
-one_kept : (o : Options) (h : DatasetHead) (bare : Bool) (k : ℕ) → takes_kind o.driver o.kind ≡ true → takes_nodata o.driver o.nodata (asked_bands o h) ≡ true → k < count_of o.bands (length h.bands) → IsOutBand (band_by bare (out_band_at o h k))
+one_kept : (o : Options) (h : DatasetHead) (bare : Bool) (k : ℕ) → takes_kind o.driver o.kind ≡ true → takes_nodata o.driver o.nodata (asked_bands o h) ≡ true → k < count_of o.bands (length h.bands) → IsOutBand (nodata_band_by bare (out_band_at o h k))
 one_kept o h true k kinds words less = tt
 one_kept o h false k kinds words less =
     let first = (source_band h (source_number_at o.bands 0)).kind in
@@ -187,7 +188,7 @@ few_sources (b ∷ bs) k count all few less =
     let one = all k 0 (omega arith) in
     omega (arith, one.1)
 
-source_kept : (o : Options) (h : DatasetHead) (bare : Bool) (k : ℕ) → source_number_at o.bands k < 256 → (band_by bare (out_band_at o h k)).source < 256
+source_kept : (o : Options) (h : DatasetHead) (bare : Bool) (k : ℕ) → source_number_at o.bands k < 256 → (nodata_band_by bare (out_band_at o h k)).source < 256
 source_kept o h true k few = few
 source_kept o h false k few = few
 
@@ -221,7 +222,7 @@ raw_kind o h e i j =
     same None first a b = refl
     same (Some kind) first a b = refl
 
-raw_alike : (o : Options) (h : DatasetHead) (b : Bool) → agree (asked_bands o h) ≡ b → o.driver ≡ EHdr → (i j : ℕ) → i < count_of o.bands (length h.bands) → j < count_of o.bands (length h.bands) → IsAlike (band_by (not b) (out_band_at o h i)) (band_by (not b) (out_band_at o h j))
+raw_alike : (o : Options) (h : DatasetHead) (b : Bool) → agree (asked_bands o h) ≡ b → o.driver ≡ EHdr → (i j : ℕ) → i < count_of o.bands (length h.bands) → j < count_of o.bands (length h.bands) → IsAlike (nodata_band_by (not b) (out_band_at o h i)) (nodata_band_by (not b) (out_band_at o h j))
 raw_alike o h false e is i j x y = record { kind = raw_kind o h is i j; nodata = refl }
 raw_alike o h true e is i j x y = record { kind = raw_kind o h is i j; nodata = agreed_at (λ k. out_band_at o h k) (count_of o.bands (length h.bands)) (out_band_at o h 0) e i j x y }
 
@@ -250,7 +251,7 @@ tile_bands o h n e takes =
 alike : (o : Options) (h : DatasetHead) (d : Driver) → o.driver ≡ d → takes_kind o.driver o.kind ≡ true → holds_kinds o.driver (asked_bands o h) ≡ true → BandsHold d (out_bands o h)
 alike o h EHdr e takes holds =
     let n = count_of o.bands (length h.bands) in
-    let f = λ (k : ℕ). band_by (not (agree (asked_bands o h))) (out_band_at o h k) in
+    let f = λ (k : ℕ). nodata_band_by (not (agree (asked_bands o h))) (out_band_at o h k) in
     subst (λ bs. All (λ b. All (IsAlike b) bs) bs) (sym (bands_with o h (not (agree (asked_bands o h))) (bare_raw o.driver (asked_bands o h) e)))
     (all_by (λ b. All (IsAlike b) (map f (range_with_len 0 n))) f n (λ i x. all_by (IsAlike (f i)) f n (λ j y. raw_alike o h (agree (asked_bands o h)) refl e i j x y)))
 alike o h (Dted level) e takes holds = tile_bands o h (negsuc 32766) (ap own_nodata e) takes
@@ -267,7 +268,7 @@ plan_kept o h p options dataset found =
     let v = bind_is (window_in asked.value) _ p asked.rest in
     let inside = bind_is (inside_in o.epo o.eco v.value h.size) _ p v.rest in
     let size = bind_is (size_in (sides_of o.outsize v.value.size)) _ p inside.rest in
-    let few = bind_is (count_in o.driver n) _ p size.rest in
+    let few = bind_is (band_count_in o.driver n) _ p size.rest in
     let geo = bind_is (geo_in o.driver h.geo v.value size.value) _ p few.rest in
     let place = bind_is (place_in o.driver geo.value) _ p geo.rest in
     let held = bind_is (fits_in o (asked_bands o h) size.value geo.value) _ p place.rest in
@@ -278,7 +279,7 @@ plan_kept o h p options dataset found =
     let third = and_is (holds_kinds o.driver (asked_bands o h)) (takes_nodata o.driver o.nodata (asked_bands o h)) second.1 in
     let window = window_is asked.value v.value v.found in
     let counted = count_is o.driver n few.value few.found in
-    let long : length (out_bands o h) ≡ n = length-map-range_with_len (λ k. band_by (is_bare o.driver (asked_bands o h)) (out_band_at o h k)) 0 n in
+    let long : length (out_bands o h) ≡ n = length-map-range_with_len (λ k. nodata_band_by (is_bare o.driver (asked_bands o h)) (out_band_at o h k)) 0 n in
     subst IsPlan (ok_same _ p _ refl held.rest) (record {
       driver = options.driver;
       size = size_is (sides_of o.outsize v.value.size) size.value size.found;
@@ -288,8 +289,8 @@ plan_kept o h p options dataset found =
       some_band = omega (arith, long, some_count o.bands (length h.bands) dataset.some_band);
       bands = omega (arith, long, counted.0);
       single = λ s. omega (arith, long, counted.1 s);
-      each = all_by IsOutBand (λ k. band_by (is_bare o.driver (asked_bands o h)) (out_band_at o h k)) n (λ k less. one_kept o h (is_bare o.driver (asked_bands o h)) k second.0 third.1 less);
-      sources = all_by (λ b. b.source < 256) (λ k. band_by (is_bare o.driver (asked_bands o h)) (out_band_at o h k)) n (λ k less. source_kept o h (is_bare o.driver (asked_bands o h)) k (few_sources o.bands k (length h.bands) options.bands dataset.bands less));
+      each = all_by IsOutBand (λ k. nodata_band_by (is_bare o.driver (asked_bands o h)) (out_band_at o h k)) n (λ k less. one_kept o h (is_bare o.driver (asked_bands o h)) k second.0 third.1 less);
+      sources = all_by (λ b. b.source < 256) (λ k. nodata_band_by (is_bare o.driver (asked_bands o h)) (out_band_at o h k)) n (λ k less. source_kept o h (is_bare o.driver (asked_bands o h)) k (few_sources o.bands k (length h.bands) options.bands dataset.bands less));
       alike = alike o h o.driver refl second.0 third.0;
       geo = first.0;
       places = λ is. places_kept o.driver h.geo v.value size.value geo.value is geo.found;

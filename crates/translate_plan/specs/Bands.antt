@@ -1,6 +1,6 @@
 -- The bands of an output.
-use Rattle.std.specs.Prelude.{◌≤◌, ℕ, ℤ, ◌-◌, ◌==◌, slice_index, Bool, true, false, not, List, [], ◌∷◌, length, map}
-use Rattle.std.specs.Prelude.{All, Option, Some, None, Result, Ok, Err, nat_lt, if◌then◌else◌}
+use Rattle.std.specs.Prelude.{ℕ, ℤ, ◌-◌, ◌==◌, slice_index, Bool, true, false, not, List, [], ◌∷◌, length, map, Option}
+use Rattle.std.specs.Prelude.{Some, None, Result, Ok, Err, nat_lt, if◌then◌else◌}
 use Rattle.std.specs.Option.{unwrap_or}
 use Rattle.std.specs.List.{range_with_len, list_all}
 use Rattle.geotransform.specs.Types.{when_in}
@@ -80,13 +80,14 @@ out_band_at o h k =
     (source_band h (source_number_at o.bands k))
 
 -- a band without its NODATA, or with it
-abbrev pub band_by : Bool → OutBand → OutBand
-band_by true b = record { source = b.source; kind = b.kind; nodata = None }
-band_by false b = b
+abbrev pub nodata_band_by : Bool → OutBand → OutBand
+nodata_band_by true b = record { source = b.source; kind = b.kind; nodata = None }
+nodata_band_by false b = b
 
 -- the output's bands, all without their NODATA or all with it
 abbrev pub bands_by : Bool → Options → DatasetHead → List OutBand
-bands_by bare o h = map (λ k. band_by bare (out_band_at o h k)) (range_with_len 0 (count_of o.bands (length h.bands)))
+bands_by bare o h = map (λ k. nodata_band_by bare (out_band_at o h k))
+    (range_with_len 0 (count_of o.bands (length h.bands)))
 
 -- two bands have the same NODATA, or both have none
 abbrev pub same_nodata : Option ℤ → Option ℤ → Bool
@@ -115,10 +116,6 @@ asked_bands o h = bands_by false o h
 -- the output's bands as they are
 abbrev pub out_bands : Options → DatasetHead → List OutBand
 out_bands o h = bands_by (is_bare o.driver (asked_bands o h)) o h
-
--- no number is past the source's bands
-pub record AreKnown (bands : List ℕ) (count : ℕ) : Type 0 where
-  pub each : All (λ b. b ≤ count) bands
 
 -- a band that stands for none
 abbrev pub no_out_band : OutBand

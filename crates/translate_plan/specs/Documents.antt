@@ -9,7 +9,7 @@ use Rattle.vrt_profile.specs.Values.{Rectangle, SourceValue, BandValue, Document
 use Rattle.vrt_profile.specs.Cover.{whole}
 use Rattle.vrt_profile.specs.Resolve.{related}
 use Rattle.vrt_writing.specs.Spelled.{spelled}
-use Rattle.vrt_profile.specs.Built.{pixels_at, plain_source}
+use Rattle.vrt_profile.specs.Built.{pixel_rectangle, plain_source}
 use Rattle.catalog.specs.Dataset.{DatasetHead}
 use Rattle.catalog.specs.Drivers.{Dataset}
 use Rattle.catalog.specs.Heads.{dataset_in}
@@ -19,7 +19,7 @@ use Rattle.translate_plan.specs.Plan.{Planned}
 
 -- the window of the source
 abbrev pub window_of : Planned → Rectangle
-window_of p = pixels_at p.x p.y (pos p.window.w) (pos p.window.h)
+window_of p = pixel_rectangle p.x p.y (pos p.window.w) (pos p.window.h)
 
 -- the source of an output's band, in the document `base`: the window of its band of the dataset `name`, on the whole of
 -- the output

@@ -45,8 +45,8 @@ own_nodata AaiGrid = None
 own_nodata Vrt = None
 
 -- the number of bands is within the limit, and one where the driver's files have one
-abbrev pub count_in : Driver → ℕ → Result (Unit {0}) PlanFault
-count_in driver n =
+abbrev pub band_count_in : Driver → ℕ → Result (Unit {0}) PlanFault
+band_count_in driver n =
     if nat_lt most_bands n then Err Limit else (if nat_lt 1 n && is_single driver then Err BandCount else Ok tt)
 
 -- each number of a geotransform rounded to 16 places, where that is a geotransform

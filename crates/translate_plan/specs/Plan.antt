@@ -23,7 +23,7 @@ use Rattle.translate_plan.specs.declared.band.OutBand.{OutBand}
 use Rattle.translate_plan.specs.declared.window.Window.{Window}
 use Rattle.translate_plan.specs.Options.{Options, IsDriver}
 use Rattle.translate_plan.specs.Window.{asked_in, window_in, inside_in, sides_of, size_in}
-use Rattle.translate_plan.specs.Fits.{is_single, count_in, geo_in, place_in, raw_geo_in, holds_geo, holds_name}
+use Rattle.translate_plan.specs.Fits.{is_single, band_count_in, geo_in, place_in, raw_geo_in, holds_geo, holds_name}
 use Rattle.translate_plan.specs.Fits.{takes_kind, holds_kinds, takes_nodata}
 use Rattle.translate_plan.specs.Bands.{all_known, count_of, asked_bands, out_bands, no_out_band}
 use Rattle.geotransform.specs.Limits.{most_bands, farthest}
@@ -69,7 +69,7 @@ plan_of o h = do
   v ← window_in asked
   inside ← inside_in o.epo o.eco v h.size
   size ← size_in (sides_of o.outsize v.size)
-  few ← count_in o.driver (count_of o.bands (length h.bands))
+  few ← band_count_in o.driver (count_of o.bands (length h.bands))
   geo ← geo_in o.driver h.geo v size
   place ← place_in o.driver geo
   held ← fits_in o (asked_bands o h) size geo

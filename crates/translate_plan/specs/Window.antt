@@ -1,9 +1,9 @@
 -- The window of the source that is translated, and the size that it gets.
-use Rattle.std.specs.Prelude.{◌≤◌, ℕ, ℤ, pos, ◌+ℤ◌, ◌*◌, ◌/◌, Bool, false, not, ◌&&◌, ◌||◌, Option, Some, None, Result}
-use Rattle.std.specs.Prelude.{Ok, Err, nat_lt, int_lt, int_le, ◌==◌, if◌then◌else◌, unsigned_abs}
+use Rattle.std.specs.Prelude.{ℕ, ℤ, pos, ◌+ℤ◌, ◌*◌, ◌/◌, Bool, false, not, ◌&&◌, ◌||◌, Option, Some, None, Result, Ok}
+use Rattle.std.specs.Prelude.{Err, nat_lt, int_lt, int_le, ◌==◌, if◌then◌else◌, unsigned_abs}
 use Rattle.geotransform.specs.Limits.{most_side, farthest}
 use Rattle.geotransform.specs.Places.{rounded_up}
-use Rattle.geotransform.specs.Geo.{Transform, IsRaster, window_between}
+use Rattle.geotransform.specs.Geo.{Transform, window_between}
 use Rattle.geotransform.specs.declared.types.Size.{Size}
 use Rattle.geotransform.specs.declared.faults.PlanFault.{PlanFault}
 use Rattle.geotransform.specs.declared.faults.PlanFault.TheVariants.{NoGeo, EmptyWindow, Limit, Outside}
@@ -86,9 +86,3 @@ sides_of (Some s) size = (side_by s.0 s.1 size.w size.h, side_by s.1 s.0 size.h 
 abbrev pub size_in : ℕ × ℕ → Result Size PlanFault
 size_in s = if is_empty (pos s.0) (pos s.1) then Err EmptyWindow
     else (if is_large (pos s.0) (pos s.1) then Err Limit else Ok (record { w = s.0; h = s.1 }))
-
--- what a window keeps
-pub record IsWindow (v : Window) : Type 0 where
-  pub x : unsigned_abs v.x ≤ farthest
-  pub y : unsigned_abs v.y ≤ farthest
-  pub size : IsRaster v.size

@@ -6,8 +6,8 @@ ghost use Rattle.geotransform.specs.Places.{are_same};
 ghost use Rattle.hgt_tiles.specs.Names as tiles;
 ghost use Rattle.esri_hdr.specs.Head.{GeoFits, raw_geo_of};
 ghost use Rattle.translate_plan.specs.Options.{IsDriver};
-ghost use Rattle.translate_plan.specs.Window.{IsWindow};
-ghost use Rattle.translate_plan.specs.Fits.{is_single, own_nodata, count_in, rounded, rounded_for, geo_in};
+ghost use Rattle.translate_plan.specs.Limits.{IsWindow};
+ghost use Rattle.translate_plan.specs.Fits.{is_single, own_nodata, band_count_in, rounded, rounded_for, geo_in};
 ghost use Rattle.translate_plan.specs.Fits.{place_in, raw_geo_in, cell_in, tile_in, holds_geo, is_named, holds_name};
 ghost use Rattle.translate_plan.specs.Fits.{is_int16, is_within_int32, takes_kind, holds_kinds, takes_number};
 ghost use Rattle.translate_plan.specs.Fits.{takes_nodata};
@@ -47,7 +47,7 @@ pub fn own_nodata(driver: Driver) -> Option<Sample>
 /// `Limit` exactly where there are more than 256 bands, else `BandCount` where there is more than one
 /// and the driver's files have one.
 pub fn count_in(driver: Driver, n: usize) -> Result<(), PlanFault>
-    ensures count { result ≡ count_in driver n }
+    ensures count { result ≡ band_count_in driver n }
 {
     if n > MOST_BANDS {
         Err(PlanFault::Limit)

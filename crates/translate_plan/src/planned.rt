@@ -1,6 +1,7 @@
 // What a translation does.
 ghost use Rattle.std.specs.Prelude.{◌≡◌, ◌<◌, ◌≤◌, length, slice_get, option_map, Some, Ok};
-ghost use Rattle.translate_plan.specs.Bands.{count_of, AreKnown};
+ghost use Rattle.translate_plan.specs.Bands.{count_of};
+ghost use Rattle.translate_plan.specs.Limits.{AreKnown};
 ghost use Rattle.esri_hdr.specs.Head.{IsHead};
 ghost use Rattle.translate_plan.specs.Plan.{plan_of, planned_by, first_band, raw_head, IsOutBand, IsPlan};
 ghost use Rattle.translate_plan.specs.declared.options.Driver.TheVariants.{EHdr};

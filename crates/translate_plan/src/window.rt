@@ -5,7 +5,8 @@ ghost use Rattle.geotransform.specs.Geo.{IsRaster};
 ghost use Rattle.geotransform.specs.declared.types.Size.{Size};
 ghost use Rattle.translate_plan.specs.Options.{IsView, IsOutSize};
 ghost use Rattle.translate_plan.specs.Window.{asked_in, is_empty, is_large, is_far, window_in, is_within, meets};
-ghost use Rattle.translate_plan.specs.Window.{inside_in, side_of, is_free, side_by, sides_of, size_in, IsWindow};
+ghost use Rattle.translate_plan.specs.Window.{inside_in, side_of, is_free, side_by, sides_of, size_in};
+ghost use Rattle.translate_plan.specs.Limits.{IsWindow};
 ghost use Rattle.geotransform.specs.Limits.{farthest, most_side};
 
 use crate::options::{OutSize, View};

@@ -5,7 +5,7 @@ use Rattle.catalog.specs.Drivers.{Dataset}
 use Rattle.translate_plan.specs.Options.{Options}
 use Rattle.translate_plan.specs.Plan.{Planned}
 use Rattle.error_lines.specs.Progress.{progress, progress_end}
-use Rattle.output_copies.specs.Steps.{translation_steps, unless_quiet, size_line, written}
+use Rattle.output_copies.specs.Steps.{translation_steps, unless_quiet, size_line, written_files}
 use Rattle.error_lines.specs.declared.faults.Fault.{Fault}
 use Rattle.error_lines.specs.Steps.{publishes, warned}
 use Rattle.error_lines.proofs.Silent.{both_silent, publishes_silent}
@@ -20,7 +20,7 @@ unfolding translation_steps
 translation_silent quiet m d p name =
     let size = unless_quiet quiet (size_line d.head.size) in
     let begin = unless_quiet quiet progress in
-    let files = written m d p name in
+    let files = written_files m d p name in
     let end = unless_quiet quiet progress_end in
     both_silent size (begin ++ (publishes files ++ end)) (quiet_silent quiet (size_line d.head.size))
     (both_silent begin (publishes files ++ end) (quiet_silent quiet progress)

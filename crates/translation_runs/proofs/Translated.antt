@@ -9,7 +9,7 @@ use Rattle.catalog.specs.Outcomes as outcomes
 use Rattle.catalog.specs.Dataset.{DatasetHead}
 use Rattle.catalog.specs.Drivers.{Dataset}
 use Rattle.catalog.specs.Heads.{dataset_in}
-use Rattle.catalog.specs.Walk.{walked, number_of, IsWalked}
+use Rattle.catalog.specs.Walk.{walked, dataset_number_in, IsWalked}
 use Rattle.catalog.proofs.Found.{found}
 use Rattle.catalog.specs.declared.faults.WalkFault.{WalkFault}
 use Rattle.catalog.specs.declared.faults.WalkFault.TheVariants as walk
@@ -17,7 +17,7 @@ use Rattle.translate_plan.specs.Options.{Options}
 use Rattle.translate_plan.specs.Plan.{Planned, plan_of, fits_in}
 use Rattle.translate_plan.specs.Bands.{all_known, count_of, asked_bands}
 use Rattle.translate_plan.specs.Window.{asked_in, window_in, inside_in, sides_of, size_in}
-use Rattle.translate_plan.specs.Fits.{count_in, geo_in, place_in}
+use Rattle.translate_plan.specs.Fits.{band_count_in, geo_in, place_in}
 use Rattle.error_lines.specs.declared.faults.Fault.{Fault}
 use Rattle.error_lines.specs.declared.faults.Fault.TheVariants.{Changed, Memory}
 use Rattle.error_lines.specs.Faults.{fault_of, by_walk, IsOutside}
@@ -37,7 +37,7 @@ pub record Walked (m : Files) (verify : Bool) (src : List ℕ) (cat : List Datas
   pub read : dataset_in m false src ≡ Ok dataset
   pub headed : head ≡ dataset.head
 
-pub walked_so : (m : Files) (verify : Bool) (src : List ℕ) (old cat : List Dataset) (id : ℕ) (head : DatasetHead) → old ≡ [] → walked m verify old src ≡ Ok cat → (IsWalked m old → IsWalked m cat) → number_of cat src ≡ Some id → option_map (λ (d : Dataset). d.head) (slice_get cat id) ≡ Some head → Walked m verify src cat id head
+pub walked_so : (m : Files) (verify : Bool) (src : List ℕ) (old cat : List Dataset) (id : ℕ) (head : DatasetHead) → old ≡ [] → walked m verify old src ≡ Ok cat → (IsWalked m old → IsWalked m cat) → dataset_number_in cat src ≡ Some id → option_map (λ (d : Dataset). d.head) (slice_get cat id) ≡ Some head → Walked m verify src cat id head
 walked_so m verify src old cat id head empty walk more number is =
     let d = found cat src id number in
     record {
@@ -57,7 +57,7 @@ planned_driver o h p found =
     let v = bind_is (window_in asked.value) _ p asked.rest in
     let inside = bind_is (inside_in o.epo o.eco v.value h.size) _ p v.rest in
     let size = bind_is (size_in (sides_of o.outsize v.value.size)) _ p inside.rest in
-    let few = bind_is (count_in o.driver (count_of o.bands (length h.bands))) _ p size.rest in
+    let few = bind_is (band_count_in o.driver (count_of o.bands (length h.bands))) _ p size.rest in
     let geo = bind_is (geo_in o.driver h.geo v.value size.value) _ p few.rest in
     let place = bind_is (place_in o.driver geo.value) _ p geo.rest in
     let held = bind_is (fits_in o (asked_bands o h) size.value geo.value) _ p place.rest in

@@ -3,7 +3,7 @@ use Rattle.std.proofs.Common.{◌≡◌, ℕ, ◌-◌, ◌<◌, ◌≤◌, true,
 use Rattle.std.proofs.lemmas.Bool.Decides.{nat_tests}
 use Rattle.vrt_markup.specs.Items.{item_at, Item, bad, comment, run, open_tag, close_tag, Tag, is_equal, is_name}
 use Rattle.lists_and_answers.specs.Answers.{◌>>=◌}
-use Rattle.vrt_markup.specs.Forest.{Forest, stop, Read, with_text, with_element, nodes_step, nodes, inner}
+use Rattle.vrt_markup.specs.Forest.{Forest, stop, ForestRead, with_text, with_element, nodes_step, nodes, inner}
 use Rattle.vrt_markup.specs.Views.{past}
 use Rattle.vrt_markup.specs.declared.fault.VrtFault.{VrtFault}
 use Rattle.vrt_markup.specs.declared.fault.VrtFault.TheVariants.{BadText, UnknownElement, MissingPart, BadNumber, Unsupported, Limit, Memory}
@@ -27,7 +27,7 @@ past_bad T d n t e = ap past (at_item T d n t bad e)
 pub past_comment : (T d : ℕ) (n t r : List ℕ) → comment r ≡ item_at t → past (nodes T d n t) ≡ past (nodes T d n r)
 past_comment T d n t r e = ap past (at_item T d n t (comment r) e)
 
-behind_text : (raw : List ℕ) (x : Read) → past (x >>= with_text raw) ≡ past x
+behind_text : (raw : List ℕ) (x : ForestRead) → past (x >>= with_text raw) ≡ past x
 behind_text raw (Ok x) = refl
 behind_text raw (Err e) = refl
 
@@ -44,7 +44,7 @@ past_end T d n t r e named = past_close T d n t n r (end_item t n r e named) (eq
 pub past_other : (T d : ℕ) (n t o r : List ℕ) → close_tag o r ≡ item_at t → is_equal o n ≡ false → past (nodes T d n t) ≡ Err (BadText (T - length t))
 past_other T d n t o r e same = ap past (at_item T d n t (close_tag o r) e) ∙ ap (λ b. past (cond b (Ok (stop, r)) (Err (BadText (T - length t))))) same
 
-abbrev pub opened : ℕ → ℕ → List ℕ → List ℕ → Tag → Read → Read
+abbrev pub opened : ℕ → ℕ → List ℕ → List ℕ → Tag → ForestRead → ForestRead
 opened T d n t tag x = x >>= λ y. nodes T d n y.1 >>= with_element (T - length t) tag y.0
 
 pub past_deep : (T d : ℕ) (n t : List ℕ) (tag : Tag) (r : List ℕ) → open_tag tag r ≡ item_at t → 64 ≤ d → past (nodes T d n t) ≡ Err Limit
@@ -53,7 +53,7 @@ past_deep T d n t tag r e deep = ap past (at_item T d n t (open_tag tag r) e) �
 pub at_open : (T d : ℕ) (n t : List ℕ) (tag : Tag) (r : List ℕ) → open_tag tag r ≡ item_at t → d < 64 → nodes T d n t ≡ opened T d n t tag (inner T d tag r)
 at_open T d n t tag r e less = at_item T d n t (open_tag tag r) e ∙ ap (λ b. cond b (Err Limit) (opened T d n t tag (inner T d tag r))) (leb_not_deep d less)
 
-behind_element : (place : ℕ) (tag : Tag) (inside : Forest) (x : Read) → past (x >>= with_element place tag inside) ≡ past x
+behind_element : (place : ℕ) (tag : Tag) (inside : Forest) (x : ForestRead) → past (x >>= with_element place tag inside) ≡ past x
 behind_element place tag inside (Ok x) = refl
 behind_element place tag inside (Err e) = refl
 
@@ -61,7 +61,7 @@ abbrev left_of : Result (List ℕ) VrtFault → List ℕ
 left_of (Ok r) = r
 left_of (Err e) = []
 
-opened_past : (T d : ℕ) (n t : List ℕ) (tag : Tag) (x : Read) (r : List ℕ) → Ok r ≡ past x → past (opened T d n t tag x) ≡ past (nodes T d n r)
+opened_past : (T d : ℕ) (n t : List ℕ) (tag : Tag) (x : ForestRead) (r : List ℕ) → Ok r ≡ past x → past (opened T d n t tag x) ≡ past (nodes T d n r)
 opened_past T d n t tag (Ok y) r e = behind_element (T - length t) tag y.0 (nodes T d n y.1) ∙ ap (λ (z : Result (List ℕ) VrtFault). past (nodes T d n (left_of z))) (sym e)
 opened_past T d n t tag (Err f) r e = absurd cc
 
@@ -85,7 +85,7 @@ err_same A B Unsupported k h = cc
 err_same A B Limit k h = cc
 err_same A B Memory k h = tt
 
-opened_fails : (T d : ℕ) (n t : List ℕ) (tag : Tag) (x : Read) (e : VrtFault) → Fails e (past x) → Fails e (past (opened T d n t tag x))
+opened_fails : (T d : ℕ) (n t : List ℕ) (tag : Tag) (x : ForestRead) (e : VrtFault) → Fails e (past x) → Fails e (past (opened T d n t tag x))
 opened_fails T d n t tag (Ok y) e h = not_ok e y.1 (past (opened T d n t tag (Ok y))) h
 opened_fails T d n t tag (Err g) e h = h
 

@@ -14,7 +14,7 @@ use Rattle.std.proofs.lemmas.Map.Keys.{IsDistinct-from_sorted, IsDistinct-IsPerm
 use Rattle.vrt_markup.specs.Items.{Pair, attribute, is_distinct, is_equal, is_some, spaces_at, pair_at, pairs, name_at, byte_at, value_at, trim_front, tag_end, tag_front, tag_at, Tag}
 use Rattle.lists_and_answers.specs.Options.{◌>>=◌}
 use Rattle.lists_and_answers.specs.Texts.{is_white}
-use Rattle.vrt_markup.specs.Keys.{key_of, last_bytes, number_of, apart, double_from, double_of}
+use Rattle.vrt_markup.specs.Keys.{sort_key_of, last_bytes, number_of, apart, double_from, double_of}
 use Rattle.vrt_markup.proofs.Shorter.{pairs_next, pairs_none}
 
 both_ways : (a b : Bool) → (a ≡ true → b ≡ true) → (b ≡ true → a ≡ true) → a ≡ b
@@ -135,29 +135,29 @@ same_names a b = by_case (is_equal a b) refl ∙ equal_flips a b
     by_case true e = ap (λ y. (last_bytes 0 a == last_bytes 0 b) && y) e ∙ and_true (last_bytes 0 a == last_bytes 0 b) (ap (λ n. last_bytes 0 a == last_bytes 0 n) (sym (same_text a b (sym e))) ∙ same_itself (last_bytes 0 a)) ∙ sym e
     by_case false e = ap (λ y. (last_bytes 0 a == last_bytes 0 b) && y) e ∙ and_false (last_bytes 0 a == last_bytes 0 b) ∙ sym e
 
-any_name : (p : Pair) (ps : List Pair) → list_any (same_key (key_of p)) (map key_of ps) ≡ is_some (attribute p.name ps)
+any_name : (p : Pair) (ps : List Pair) → list_any (same_key (sort_key_of p)) (map sort_key_of ps) ≡ is_some (attribute p.name ps)
 any_name p [] = refl
-any_name p (q ∷ qs) = ap (λ b. b || list_any (same_key (key_of p)) (map key_of qs)) (same_names p.name q.name) ∙ ap (λ b. is_equal q.name p.name || b) (any_name p qs) ∙ found (is_equal q.name p.name) (attribute p.name qs)
+any_name p (q ∷ qs) = ap (λ b. b || list_any (same_key (sort_key_of p)) (map sort_key_of qs)) (same_names p.name q.name) ∙ ap (λ b. is_equal q.name p.name || b) (any_name p qs) ∙ found (is_equal q.name p.name) (attribute p.name qs)
   where
     found : (b : Bool) (o : Option (List ℕ)) → (b || is_some o) ≡ is_some (cond b (Some q.value) o)
     found true o = refl
     found false o = refl
 
-apart_names : (ps : List Pair) → apart same_key (map key_of ps) ≡ is_distinct ps
+apart_names : (ps : List Pair) → apart same_key (map sort_key_of ps) ≡ is_distinct ps
 apart_names [] = refl
-apart_names (p ∷ ps) = ap (λ b. not b && apart same_key (map key_of ps)) (any_name p ps) ∙ ap (λ b. not (is_some (attribute p.name ps)) && b) (apart_names ps)
+apart_names (p ∷ ps) = ap (λ b. not b && apart same_key (map sort_key_of ps)) (any_name p ps) ∙ ap (λ b. not (is_some (attribute p.name ps)) && b) (apart_names ps)
 
 -- One attribute more gives its key.
-pub keys_more : {K : Type 0} (f : K → ℕ × List ℕ) (ks ms : List K) (k : K) (t : List ℕ) (p : Pair) (r : List ℕ) → ms ≡ ks ++ k ∷ [] → f k ≡ key_of p → pair_at t ≡ Some (p, r) → map f ms ++ map key_of (pairs r).0 ≡ map f ks ++ map key_of (pairs t).0
+pub keys_more : {K : Type 0} (f : K → ℕ × List ℕ) (ks ms : List K) (k : K) (t : List ℕ) (p : Pair) (r : List ℕ) → ms ≡ ks ++ k ∷ [] → f k ≡ sort_key_of p → pair_at t ≡ Some (p, r) → map f ms ++ map sort_key_of (pairs r).0 ≡ map f ks ++ map sort_key_of (pairs t).0
 keys_more f ks ms k t p r more same e =
-    ap (λ xs. map f xs ++ map key_of (pairs r).0) more
-    ∙ ap (λ xs. xs ++ map key_of (pairs r).0) (map-append f ks (k ∷ []))
-    ∙ append_assoc (map f ks) (f k ∷ []) (map key_of (pairs r).0)
-    ∙ ap (λ x. map f ks ++ x ∷ map key_of (pairs r).0) same
-    ∙ ap (λ (x : List Pair × List ℕ). map f ks ++ map key_of x.0) (sym (pairs_next t p r e))
+    ap (λ xs. map f xs ++ map sort_key_of (pairs r).0) more
+    ∙ ap (λ xs. xs ++ map sort_key_of (pairs r).0) (map-append f ks (k ∷ []))
+    ∙ append_assoc (map f ks) (f k ∷ []) (map sort_key_of (pairs r).0)
+    ∙ ap (λ x. map f ks ++ x ∷ map sort_key_of (pairs r).0) same
+    ∙ ap (λ (x : List Pair × List ℕ). map f ks ++ map sort_key_of x.0) (sym (pairs_next t p r e))
 
 -- What is left of the keys in order tells whether no attribute stands twice.
-pub keys_tell : {K : Type 0} (f : K → ℕ × List ℕ) (xs ys zs : List K) (ps : List Pair) → map f xs ≡ map key_of ps → IsPermutation xs ys → IsSorted (λ x y. ordering_then (nat_cmp (f x).0 (f y).0) (slice_cmp nat_cmp (f x).1 (f y).1)) ys → zs ≡ dedup (λ x y. same_key (f x) (f y)) ys → (length zs == length xs) ≡ is_distinct ps
+pub keys_tell : {K : Type 0} (f : K → ℕ × List ℕ) (xs ys zs : List K) (ps : List Pair) → map f xs ≡ map sort_key_of ps → IsPermutation xs ys → IsSorted (λ x y. ordering_then (nat_cmp (f x).0 (f y).0) (slice_cmp nat_cmp (f x).1 (f y).1)) ys → zs ≡ dedup (λ x y. same_key (f x) (f y)) ys → (length zs == length xs) ≡ is_distinct ps
 keys_tell f xs ys zs ps keys moved sorted left =
     ap (λ ws. length ws == length xs) left
     ∙ left_tells (then_total (on_total (λ x. (f x).0) nat_cmp_total) (on_texts (λ x. (f x).1))) (λ x y. same_key (f x) (f y)) (λ x y. both_tied _ _ (nat_cmp (f x).0 (f y).0) (slice_cmp nat_cmp (f x).1 (f y).1) (unsigned_ties (f x).0 (f y).0) (texts_ties (f x).1 (f y).1)) (λ x y. ap (λ b. b && is_equal (f x).1 (f y).1) (nat_flips (f x).0 (f y).0) ∙ ap (λ b. ((f y).0 == (f x).0) && b) (equal_flips (f x).1 (f y).1)) xs ys moved sorted

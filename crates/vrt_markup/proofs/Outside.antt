@@ -2,8 +2,8 @@
 use Rattle.std.proofs.Common.{◌≡◌, ℕ, zero, suc, ◌-◌, ◌<◌, ◌≤◌, Bool, true, false, cond, List, length, Result, Ok, Err, refl, sym, ap, ◌∙◌, arith}
 use Rattle.vrt_markup.specs.Items.{item_at, Item, bad, comment, run, open_tag, close_tag, Tag}
 use Rattle.vrt_markup.specs.Forest.{is_all_white}
-use Rattle.vrt_markup.specs.Views.{IsShorter}
-use Rattle.vrt_markup.specs.Tree.{space_step, space_by, space, Root, root_item, root_behind}
+use Rattle.vrt_markup.specs.Fronts.{IsShorter, root_behind}
+use Rattle.vrt_markup.specs.Tree.{space_step, space_by, space, Root, root_item}
 use Rattle.vrt_markup.specs.declared.fault.VrtFault.{VrtFault}
 use Rattle.vrt_markup.specs.declared.fault.VrtFault.TheVariants.{BadText}
 use Rattle.lists_and_answers.specs.Answers.{◌>>=◌}
@@ -57,10 +57,10 @@ pub space_comment : (T : ℕ) (t r : List ℕ) → comment r ≡ item_at t → s
 space_comment T t r e = next T t (comment r) e
 
 pub space_run : (T : ℕ) (t raw r : List ℕ) → run raw r ≡ item_at t → is_all_white raw ≡ true → space T t ≡ space T r
-space_run T t raw r e blank = next T t (run raw r) e ∙ ap (λ b. cond b (space T r) (Err (BadText (T - length t)))) blank
+space_run T t raw r e white = next T t (run raw r) e ∙ ap (λ b. cond b (space T r) (Err (BadText (T - length t)))) white
 
 pub space_text : (T : ℕ) (t raw r : List ℕ) → run raw r ≡ item_at t → is_all_white raw ≡ false → space T t ≡ Err (BadText (T - length t))
-space_text T t raw r e blank = next T t (run raw r) e ∙ ap (λ b. cond b (space T r) (Err (BadText (T - length t)))) blank
+space_text T t raw r e white = next T t (run raw r) e ∙ ap (λ b. cond b (space T r) (Err (BadText (T - length t)))) white
 
 -- the root's tag, by the item in front
 abbrev from_start : (T : ℕ) → Result (List ℕ) VrtFault → Result Root VrtFault
@@ -79,10 +79,10 @@ pub root_comment : (T : ℕ) (t r : List ℕ) → comment r ≡ item_at t → ro
 root_comment T t r e = ap (from_start T) (space_comment T t r e)
 
 pub root_run : (T : ℕ) (t raw r : List ℕ) → run raw r ≡ item_at t → is_all_white raw ≡ true → root_behind T t ≡ root_behind T r
-root_run T t raw r e blank = ap (from_start T) (space_run T t raw r e blank)
+root_run T t raw r e white = ap (from_start T) (space_run T t raw r e white)
 
 pub root_text : (T : ℕ) (t raw r : List ℕ) → run raw r ≡ item_at t → is_all_white raw ≡ false → root_behind T t ≡ Err (BadText (T - length t))
-root_text T t raw r e blank = ap (from_start T) (space_text T t raw r e blank)
+root_text T t raw r e white = ap (from_start T) (space_text T t raw r e white)
 
 -- a first step that fails
 pub fails_bind : {A B : Type 0} (e : VrtFault) (r : Result A VrtFault) (f : A → Result B VrtFault) → Fails e r → Fails e (r >>= f)

@@ -7,7 +7,7 @@ use Rattle.std.proofs.lemmas.Bool.Decides.{nat_tests}
 use Rattle.lists_and_answers.specs.Options.{◌>>=◌}
 use Rattle.lists_and_answers.specs.Texts.{is_white}
 use Rattle.vrt_markup.specs.Items.{option_case, is_later, has_first, trim_front, name_at, byte_at, spaces_at, quote_at, plain_len, value_at, pair_at, Pair, with_pair, pairs_by, pairs, Tag, tag_end, tag_front, tag_at, is_distinct, close_at, strip, begins, after_comment, ends_at, run_at, item_at, bad, comment, run, open_tag, close_tag}
-use Rattle.vrt_markup.specs.Views.{IsShorter}
+use Rattle.vrt_markup.specs.Fronts.{IsShorter}
 
 pub bind_some : {A B : Type 0} (o : Option A) (f : A → Option B) (y : B) → (o >>= f) ≡ Some y → (x : A) × (o ≡ Some x) × (f x ≡ Some y)
 bind_some None f y h = absurd cc

@@ -3,7 +3,8 @@ use Rattle.std.proofs.Common.{◌≡◌, ℕ, suc, Bool, true, false, cond, not,
 use Rattle.std.specs.Prelude.{◌||◌}
 use Rattle.std.specs.List.{list_all, prefix_len}
 use Rattle.std.proofs.lemmas.Bool.Decides.{nat_tests}
-use Rattle.vrt_markup.specs.Items.{Pair, Item, is_some, option_case, strip, byte_at, is_first, is_later, has_first, is_name, entity_at, plain_len, after_comment, pairs, close_at, tag_item, run_at, item_at, opens_name, bad, comment, run, open_tag, close_tag}
+use Rattle.vrt_markup.specs.Items.{Pair, Item, is_some, option_case, strip, byte_at, is_first, is_later, has_first, is_name, entity_at, plain_len, after_comment, pairs, close_at, tag_item, run_at, item_at, bad, comment, run, open_tag, close_tag}
+use Rattle.vrt_markup.specs.Fronts.{opens_name}
 use Rattle.vrt_markup.specs.Views.{Finds}
 use Rattle.vrt_markup.specs.declared.items.Item as found
 use Rattle.vrt_markup.proofs.Names.{spaceless}

@@ -21,21 +21,21 @@ pub data Forest : Type 0 where
   element : ℕ → Tag → Forest → Forest → Forest
 
 -- what stands in an element, and the bytes behind its end; or the first fault of the first pass
-abbrev pub Read : Type 0
-Read = Result (Forest × List ℕ) VrtFault
+abbrev pub ForestRead : Type 0
+ForestRead = Result (Forest × List ℕ) VrtFault
 
-abbrev pub with_text : List ℕ → Forest × List ℕ → Read
+abbrev pub with_text : List ℕ → Forest × List ℕ → ForestRead
 with_text raw x = Ok (text raw x.0, x.1)
 
-abbrev pub with_element : ℕ → Tag → Forest → Forest × List ℕ → Read
+abbrev pub with_element : ℕ → Tag → Forest → Forest × List ℕ → ForestRead
 with_element place tag inner x = Ok (element place tag inner x.0, x.1)
 
-abbrev pub inner_by : (ℕ → List ℕ → List ℕ → Read) → ℕ → Tag → List ℕ → Read
+abbrev pub inner_by : (ℕ → List ℕ → List ℕ → ForestRead) → ℕ → Tag → List ℕ → ForestRead
 inner_by more depth tag rest = if tag.empty then Ok (stop, rest) else more (suc depth) tag.name rest
 
 -- What stands in an element with this name at this depth, by the item in front; more reads what stands behind it.
 -- A place is counted from the document's first byte, so it is the document's length less what is left.
-abbrev pub nodes_step : (ℕ → List ℕ → List ℕ → Read) → ℕ → ℕ → List ℕ → List ℕ → Item → Read
+abbrev pub nodes_step : (ℕ → List ℕ → List ℕ → ForestRead) → ℕ → ℕ → List ℕ → List ℕ → Item → ForestRead
 nodes_step more total depth name bytes bad = Err (BadText (total - length bytes))
 nodes_step more total depth name bytes (comment rest) = more depth name rest
 nodes_step more total depth name bytes (run raw rest) = more depth name rest >>= with_text raw
@@ -46,16 +46,16 @@ nodes_step more total depth name bytes (open_tag tag rest) =
     (inner_by more depth tag rest >>= λ x. more depth name x.1 >>= with_element (total - length bytes) tag x.0)
 
 -- Each item takes a byte at least.
-abbrev pub nodes_by : ℕ → ℕ → ℕ → List ℕ → List ℕ → Read
+abbrev pub nodes_by : ℕ → ℕ → ℕ → List ℕ → List ℕ → ForestRead
 nodes_by zero total depth name bytes = Err (BadText (total - length bytes))
 nodes_by (suc fuel) total depth name bytes =
     nodes_step (λ d n r. nodes_by fuel total d n r) total depth name bytes (item_at bytes)
 
-abbrev pub nodes : ℕ → ℕ → List ℕ → List ℕ → Read
+abbrev pub nodes : ℕ → ℕ → List ℕ → List ℕ → ForestRead
 nodes total depth name bytes = nodes_by (length bytes) total depth name bytes
 
 -- what stands in the element that begins with a tag
-abbrev pub inner : ℕ → ℕ → Tag → List ℕ → Read
+abbrev pub inner : ℕ → ℕ → Tag → List ℕ → ForestRead
 inner total depth tag rest = inner_by (nodes total) depth tag rest
 
 -- Over what stands in an element: each element in it in turn, until one is refused.
@@ -75,7 +75,7 @@ all_white (text raw more) = is_all_white raw && all_white more
 all_white (element place tag inside more) = all_white more
 
 -- what an element means, and the bytes behind it
-abbrev pub read_as : {A : Type 0} → (Forest → A) → Read → Result (A × List ℕ) VrtFault
+abbrev pub read_as : {A : Type 0} → (Forest → A) → ForestRead → Result (A × List ℕ) VrtFault
 read_as means (Ok x) = Ok (means x.0, x.1)
 read_as means (Err e) = Err e
 

@@ -188,10 +188,6 @@ run_at text = if plain_len less_than text == 0 then bad else
 abbrev pub tag_item : List ℕ → Item
 tag_item text = option_case (tag_at text) bad (λ t. open_tag t.0 t.1)
 
--- whether a `<` and a name stand in front
-abbrev pub opens_name : List ℕ → Bool
-opens_name text = option_case (byte_at less_than text) false has_first
-
 unfoldable pub item_at : List ℕ → Item
 item_at text =
     option_case (strip (codes "<!--") text)

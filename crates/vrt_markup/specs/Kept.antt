@@ -23,10 +23,10 @@ Gives view (Ok x) read = Ok (view x) ≡ read
 Gives view (Err e) read = Fails e read
 
 -- What is known of an element after a part of what stands in it, where forest is what is left:
--- the parts or the first fault among its children, and whether its text is blank.
+-- the parts or the first fault among its children, and whether its text is all white.
 abbrev pub seen : {S : Type 0} → (S → ℕ → Tag → Forest → Result S VrtFault) → Result S VrtFault → Bool → Forest →
     Result S VrtFault × Bool
-seen step kept blank forest = (kept >>= λ s. over step s forest, blank && all_white forest)
+seen step kept white forest = (kept >>= λ s. over step s forest, white && all_white forest)
 
 abbrev pub first_child : Option ℕ → Option ℕ → Option ℕ
 first_child None later = later
@@ -35,11 +35,6 @@ first_child (Some place) later = Some place
 -- the same of an element that holds text alone
 abbrev pub worded : List ℕ → Option ℕ → Forest → List ℕ × Option ℕ
 worded front child forest = (front ++ text_of forest, first_child child (child_of forest))
-
--- the parts so far with a child element
-abbrev pub stepped : {S : Type 0} → (S → ℕ → Tag → Forest → Result S VrtFault) → Result S VrtFault → ℕ → Tag → Forest →
-    Result S VrtFault
-stepped step kept place tag inside = kept >>= λ s. step s place tag inside
 
 -- the parts, unless a child is at fault
 abbrev pub kept_of : {S : Type 0} → S → Result (Unit {0}) VrtFault → Result S VrtFault

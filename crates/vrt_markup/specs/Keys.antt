@@ -10,8 +10,8 @@ last_bytes word [] = word
 last_bytes word (c ∷ cs) = last_bytes (word % 72057594037927936 * 256 + c) cs
 
 -- a name behind the number of its last bytes
-abbrev pub key_of : Pair → ℕ × List ℕ
-key_of p = (last_bytes 0 p.name, p.name)
+abbrev pub sort_key_of : Pair → ℕ × List ℕ
+sort_key_of p = (last_bytes 0 p.name, p.name)
 
 -- the number alone
 abbrev pub number_of : Pair → ℕ

@@ -7,3 +7,5 @@ pub mod Views
 pub mod Kept
 -- What private clauses, views and proofs speak of.
 pub mod Keys
+pub mod Attributes
+pub mod Fronts

@@ -49,15 +49,11 @@ pub record Root : Type 0 where
   pub tag : Tag
   pub rest : List ℕ
 
--- Where `space` ends no comment stands in front and no run, since it goes on behind a comment and a blank run, and
--- refuses another run. So the root's tag stands there, or what is no item, or an end tag.
+-- Where `space` ends no comment stands in front and no run, since it goes on behind a comment and a run of white space,
+-- and refuses another run. So the root's tag stands there, or what is no item, or an end tag.
 abbrev pub root_item : ℕ → List ℕ → Item → Result Root VrtFault
 root_item total bytes (open_tag tag rest) = Ok (record { place = total - length bytes; tag = tag; rest = rest })
 root_item total bytes other = Err (BadText (total - length bytes))
-
--- the same behind comments and white space
-abbrev pub root_behind : ℕ → List ℕ → Result Root VrtFault
-root_behind total bytes = space total bytes >>= λ start. root_item total start (item_at start)
 
 unfoldable pub root_at : ℕ → List ℕ → Result Root VrtFault
 root_at total bytes = do

@@ -4,23 +4,14 @@ use Rattle.vrt_markup.specs.declared.text.Words.{Words}
 use Rattle.vrt_markup.specs.declared.text.Plain.{Plain}
 use Rattle.vrt_markup.specs.declared.text.Plain.TheVariants.{Lent, Own}
 use Rattle.vrt_markup.specs.declared.fault.VrtFault.{VrtFault}
-use Rattle.vrt_markup.specs.Forest.{Read}
+use Rattle.vrt_markup.specs.Forest.{ForestRead}
 use Rattle.vrt_markup.specs.Tree as tree
 use Rattle.vrt_markup.specs.declared.root.Root.{Root}
 use Rattle.vrt_markup.specs.Items as items
 use Rattle.vrt_markup.specs.Items.{pairs, bad, comment, run, open_tag, close_tag}
-use Rattle.vrt_markup.specs.Keys as keys
-use Rattle.vrt_markup.specs.declared.attributes.Pair.{Pair}
-use Rattle.vrt_markup.specs.declared.attributes.Spread.{Spread}
 use Rattle.vrt_markup.specs.declared.tag.Tag.{Tag}
 use Rattle.vrt_markup.specs.declared.items.Item.{Item}
 use Rattle.vrt_markup.specs.declared.items.Item.TheVariants.{NoMemory, Bad, Comment, Run, Open, Close}
-
-abbrev pub pair_view : Pair → items.Pair
-pair_view p = record { name = p.name.now; value = p.value.now }
-
-abbrev pub spread_view : Spread → keys.Spread
-spread_view s = record { low = s.low; last = s.last; top = s.top }
 
 abbrev pub tag_view : Tag → items.Tag
 tag_view t = record { name = t.name.now; pairs = (pairs t.attributes.now).0; empty = t.empty }
@@ -43,15 +34,7 @@ Shortens (Run front rest) text = length rest.now < length text
 Shortens (Open tag rest) text = length rest.now < length text
 Shortens (Close name rest) text = length rest.now < length text
 
--- An item takes a byte at least.
-abbrev pub IsShorter : items.Item → List ℕ → Type 0
-IsShorter bad text = Unit {0}
-IsShorter (comment rest) text = length rest < length text
-IsShorter (run front rest) text = length rest < length text
-IsShorter (open_tag tag rest) text = length rest < length text
-IsShorter (close_tag name rest) text = length rest < length text
-
-abbrev pub past : Read → Result (List ℕ) VrtFault
+abbrev pub past : ForestRead → Result (List ℕ) VrtFault
 past (Ok x) = Ok x.1
 past (Err e) = Err e
 

@@ -2,8 +2,8 @@
 ghost use Rattle.std.specs.Prelude.{◌≡◌, ◌<◌, ◌≤◌, ◌==◌, ℕ, List, length, map, true, false, IfSome, IfOk, None};
 ghost use Rattle.std.specs.Option.{option_map};
 ghost use Rattle.vrt_markup.specs.Items.{is_some, pair_at, is_equal, pairs, attribute, is_distinct};
-ghost use Rattle.vrt_markup.specs.Keys.{last_bytes, key_of, number_of, apart, double_from, double_of, spread_with};
-ghost use Rattle.vrt_markup.specs.Views.{pair_view, spread_view};
+ghost use Rattle.vrt_markup.specs.Keys.{last_bytes, sort_key_of, number_of, apart, double_from, double_of, spread_with};
+ghost use Rattle.vrt_markup.specs.Attributes.{pair_view, spread_view};
 
 use crate::tokens::{byte_at, has_space, name_at, spaces_at, trim_front, value_at};
 use std::alloc::{AllocError, Global};
@@ -88,7 +88,7 @@ fn last_bytes(name: &[u8]) -> u64
 /// already.
 #[tactic(auto, using(crate::proofs::Shorter::pairs_next, crate::proofs::Shorter::pairs_none))]
 fn keys_of(alloc: Global, text: &[u8]) -> Result<Vec<(u64, &[u8])>, AllocError>
-    ensures keys { IfOk result (λ v. map (λ k. (k.0, k.1.now)) v.items ≡ map key_of (pairs text.now).0) }
+    ensures keys { IfOk result (λ v. map (λ k. (k.0, k.1.now)) v.items ≡ map sort_key_of (pairs text.now).0) }
 {
     let mut keys = Vec::new(alloc);
     let mut rest = text;

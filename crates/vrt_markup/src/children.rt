@@ -4,7 +4,8 @@ ghost use Rattle.vrt_markup.specs.Items as items;
 ghost use Rattle.vrt_markup.specs.Items.{is_name, item_at};
 ghost use Rattle.vrt_markup.specs.Forest.{Forest, deepest, nodes, inner, read_as};
 ghost use Rattle.vrt_markup.specs.Views.{tag_view, Finds, Shortens};
-ghost use Rattle.vrt_markup.specs.Kept.{Gives, seen, stepped, kept_of};
+ghost use Rattle.vrt_markup.specs.Kept.{Gives, seen, kept_of};
+ghost use Rattle.vrt_markup.specs.Fronts.{stepped};
 ghost use Rattle.vrt_markup.specs.declared.fault.VrtFault.{VrtFault};
 
 use crate::ends::{own_end, own_start};
@@ -56,11 +57,11 @@ pub trait Parts {
         ensures same { step self.new ≡ step self.old };
 }
 
-/// The first fault among the elements in an element, if there is one, and whether the text directly in it is blank.
+/// The first fault among the elements in an element, if there is one, and whether the text directly in it is all white.
 #[derive(Clone, Copy)]
 pub struct Seen {
     pub kept: Result<(), VrtFault>,
-    pub blank: bool,
+    pub white: bool,
 }
 
 // A child of an element, which is read past once there is a fault.
@@ -145,7 +146,7 @@ fn child_nodes<'a, P: Parts>(
     requires within { length bytes.now ≤ level.total }
     requires depth { level.depth ≤ deepest }
     requires named { is_name name.now ≡ true }
-    ensures seen { Gives (λ x. ((kept_of (P.value parts.new) x.0.kept, x.0.blank), x.1.now)) result
+    ensures seen { Gives (λ x. ((kept_of (P.value parts.new) x.0.kept, x.0.white), x.1.now)) result
         (read_as (seen (P.step parts.old) (Ok (P.value parts.old)) true)
         (nodes level.total level.depth name.now bytes.now)) }
     ensures shorter { IfOk result (λ x. length x.1.now < length bytes.now) }
@@ -153,7 +154,7 @@ fn child_nodes<'a, P: Parts>(
     let mut rest = bytes;
     let mut seen = Seen {
         kept: Ok(()),
-        blank: true,
+        white: true,
     };
     'items: loop {
         if let Some(behind) = own_end(rest, name) {
@@ -165,7 +166,7 @@ fn child_nodes<'a, P: Parts>(
             Item::NoMemory => return Err(VrtFault::Memory),
             Item::Comment(more) => rest = more,
             Item::Run(raw, more) => {
-                seen.blank = seen.blank & is_all_white(raw);
+                seen.white = seen.white & is_all_white(raw);
                 rest = more;
             }
             Item::Close(other, more) if is_equal(other, name) => return Ok((seen, more)),
@@ -196,7 +197,7 @@ pub fn children_of<'a, P: Parts>(
 ) -> Result<(Seen, &'a [u8]), VrtFault>
     requires within { length bytes.now ≤ level.total }
     requires depth { level.depth < deepest }
-    ensures seen { Gives (λ x. ((kept_of (P.value parts.new) x.0.kept, x.0.blank), x.1.now)) result
+    ensures seen { Gives (λ x. ((kept_of (P.value parts.new) x.0.kept, x.0.white), x.1.now)) result
         (read_as (seen (P.step parts.old) (Ok (P.value parts.old)) true)
         (inner level.total level.depth (tag_view tag.entry) bytes.now)) }
     ensures shorter { IfOk result (λ x. length x.1.now ≤ length bytes.now) }
@@ -205,7 +206,7 @@ pub fn children_of<'a, P: Parts>(
         return Ok((
             Seen {
                 kept: Ok(()),
-                blank: true,
+                white: true,
             },
             bytes,
         ));

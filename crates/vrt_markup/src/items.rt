@@ -1,8 +1,9 @@
 // The items of a document: comments, tags and runs of text.
 ghost use Rattle.std.specs.Prelude.{◌≡◌, ◌<◌, ◌≤◌, length, map, true, false, IfSome, IfOk, Some, None};
 ghost use Rattle.std.specs.Option.{option_map};
-ghost use Rattle.vrt_markup.specs.Items.{is_name, has_first, name_at, pairs, is_distinct, tag_end, tag_front};
-ghost use Rattle.vrt_markup.specs.Items.{tag_item, tag_at, close_at, run_at, item_at, opens_name};
+ghost use Rattle.vrt_markup.specs.Items.{is_name, has_first, name_at, pairs, is_distinct, tag_end, tag_front, tag_item};
+ghost use Rattle.vrt_markup.specs.Items.{tag_at, close_at, run_at, item_at};
+ghost use Rattle.vrt_markup.specs.Fronts.{opens_name};
 ghost use Rattle.vrt_markup.specs.Keys.{number_of};
 ghost use Rattle.vrt_markup.specs.Views.{tag_view, Finds, Shortens};
 

@@ -3,8 +3,9 @@ ghost use Rattle.std.specs.Prelude.{◌≡◌, ◌<◌, ◌≤◌, ◌-◌, leng
 ghost use Rattle.std.specs.Option.{option_map};
 ghost use Rattle.vrt_markup.specs.Views.{result_view, root_view};
 ghost use Rattle.vrt_markup.specs.Kept.{Gives};
-ghost use Rattle.vrt_markup.specs.Tree.{utf8_of, space, without_mark, after_declaration, declared_at, root_behind};
-ghost use Rattle.vrt_markup.specs.Tree.{root_at, end_by, end_at};
+ghost use Rattle.vrt_markup.specs.Tree.{utf8_of, space, without_mark, after_declaration, declared_at, root_at, end_by};
+ghost use Rattle.vrt_markup.specs.Tree.{end_at};
+ghost use Rattle.vrt_markup.specs.Fronts.{root_behind};
 
 use crate::fault::VrtFault;
 use crate::items::{Item, item_at};

@@ -21,7 +21,7 @@ use std::alloc::{AllocError, Global};
 
 /// Whether it is white space alone.
 pub fn is_all_white(raw: &[u8]) -> bool
-    ensures blank { result ≡ is_all_white raw.now }
+    ensures white { result ≡ is_all_white raw.now }
 {
     raw.iter().all(|c| is_white(*c))
 }

@@ -7,7 +7,8 @@ use Rattle.vrt_markup.specs.Faults.{IsMemory}
 use Rattle.vrt_markup.specs.Kept.{Fails, Gives}
 use Rattle.vrt_markup.specs.declared.fault.VrtFault.{VrtFault}
 use Rattle.vrt_markup.specs.declared.fault.VrtFault.TheVariants.{BadText, UnknownElement, MissingPart, BadNumber, Unsupported, Limit, Memory}
-use Rattle.vrt_profile.specs.Document.{means, markup_means, document_of}
+use Rattle.vrt_profile.specs.Document.{means, document_of}
+use Rattle.vrt_profile.specs.Seen.{markup_means}
 use Rattle.vrt_profile.specs.Values.{DocumentValue}
 
 fails_answer : {A : Type 0} (e : VrtFault) (d : Result A VrtFault) → Fails e d → (e ≡ Memory) ⊎ (d ≡ Err e)

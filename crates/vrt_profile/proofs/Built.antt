@@ -9,7 +9,7 @@ use Rattle.geotransform.specs.declared.types.Size.{Size}
 use Rattle.vrt_markup.specs.Items.{strip, byte_at}
 use Rattle.vrt_profile.specs.Resolve.{some_text, related_by, related_in, related}
 use Rattle.vrt_profile.specs.Cover.{whole}
-use Rattle.vrt_profile.specs.Built.{pixels_at}
+use Rattle.vrt_profile.specs.Built.{pixel_rectangle}
 
 -- a list whose items keep a rule, after one more was pushed or refused
 pub pushed : {A E : Type 0} (P : A → Type 0) (r : Result (Unit {0}) E) (old new : List A) (x : A) → OnOk r (new ≡ old ++ x ∷ []) → OnErr r (new ≡ old) → All P old → P x → All P new
@@ -17,7 +17,7 @@ pushed P (Ok u) old new x ok err all one = subst (All P) (sym ok) (All-push P ol
 pushed P (Err e) old new x ok err all one = subst (All P) (sym err) all
 
 -- the whole of a raster, pixel by pixel
-pub whole_pixels : (s : Size) → pixels_at (pos 0) (pos 0) (pos s.w) (pos s.h) ≡ whole s
+pub whole_pixels : (s : Size) → pixel_rectangle (pos 0) (pos 0) (pos s.w) (pos s.h) ≡ whole s
 whole_pixels s =
     let w : 1000000 * s.w ≡ s.w * 1000000 = omega arith in
     let h : 1000000 * s.h ≡ s.h * 1000000 = omega arith in

@@ -5,7 +5,7 @@ use Rattle.geotransform.specs.declared.types.PixelType.TheVariants.{Int16}
 use Rattle.vrt_markup.specs.Items.{item_at, tag_at, tag_front, close_at, pair_at, value_at}
 use Rattle.vrt_markup.specs.Tree.{markup_of, root_at, end_at}
 use Rattle.vrt_profile.specs.Means.{dataset_of}
-use Rattle.vrt_profile.specs.Document.{markup_means}
+use Rattle.vrt_profile.specs.Seen.{markup_means}
 use Rattle.vrt_markup.specs.declared.fault.VrtFault.TheVariants.{BadText, UnknownElement}
 
 -- an element that isn't known

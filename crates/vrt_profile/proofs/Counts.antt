@@ -7,14 +7,14 @@ use Rattle.std.proofs.lemmas.Bool.Decides.{nat_tests}
 use Rattle.lists_and_answers.specs.Answers.{◌>>=◌, wants}
 use Rattle.geotransform.specs.declared.types.PixelType.{PixelType}
 use Rattle.vrt_markup.specs.Items.{Tag, attribute}
-use Rattle.vrt_markup.specs.Forest.{Forest, stop, text, element, Read, read_as, over, all_white}
+use Rattle.vrt_markup.specs.Forest.{Forest, stop, text, element, ForestRead, read_as, over, all_white}
 use Rattle.vrt_profile.specs.Values.{SourceValue, BandValue, IsSource, IsBand, IsDecimal, source_count}
 use Rattle.vrt_profile.specs.Means.{BandParts, DatasetParts, no_band_parts, once, with_source, band_parts, band_step, band_part_of, band_end, band_of, kind_in, is_placed, is_sourced}
 use Rattle.vrt_markup.specs.Kept.{kept_of}
 use Rattle.vrt_profile.specs.Seen.{band_by, one_more}
 use Rattle.vrt_profile.specs.Parts.{IsBandParts, IsDatasetParts}
-use Rattle.vrt_profile.specs.declared.parts.BandPart.{BandPart}
-use Rattle.vrt_profile.specs.declared.parts.BandPart.TheVariants.{NoData, Simple, Complex, Past, Unknown}
+use Rattle.vrt_profile.specs.declared.elements.BandPart.{BandPart}
+use Rattle.vrt_profile.specs.declared.elements.BandPart.TheVariants.{NoData, Simple, Complex, Past, Unknown}
 use Rattle.vrt_markup.specs.declared.fault.VrtFault.{VrtFault}
 use Rattle.vrt_markup.specs.declared.fault.VrtFault.TheVariants.{BadNumber, Unsupported, Limit}
 use Rattle.vrt_profile.proofs.Tables.{bind_ok, ok_same, cond_err}
@@ -98,11 +98,11 @@ abbrev sources_of : BandParts → Result BandValue VrtFault → List SourceValue
 sources_of p (Ok b) = b.sources
 sources_of p (Err e) = p.sources
 
-band_by_ok : (kind : Result PixelType VrtFault) (placed sourced blank : Bool) (parts : Result BandParts VrtFault) (b : BandValue) → band_by kind placed sourced blank parts ≡ Ok b → (p : BandParts) × (parts ≡ Ok p) × (p.sources ≡ b.sources)
-band_by_ok kind placed sourced blank parts b h =
+band_by_ok : (kind : Result PixelType VrtFault) (placed sourced white : Bool) (parts : Result BandParts VrtFault) (b : BandValue) → band_by kind placed sourced white parts ≡ Ok b → (p : BandParts) × (parts ≡ Ok p) × (p.sources ≡ b.sources)
+band_by_ok kind placed sourced white parts b h =
     let k = bind_ok kind _ b h in
     let place = bind_ok (wants placed BadNumber) _ b k.2 in
-    let plain = bind_ok (wants (sourced && blank) Unsupported) _ b place.2 in
+    let plain = bind_ok (wants (sourced && white) Unsupported) _ b place.2 in
     let p = bind_ok parts (band_end k.0) b plain.2 in
     (p.0, p.1, ap (λ (r : Result BandValue VrtFault). sources_of p.0 r) p.2)
 
@@ -116,7 +116,7 @@ band_fits number taken tag b f some h =
     let all = fits_over taken (no_band_parts taken) p.0 f (record { same = refl; few = omega (arith, some) }) p.1 in
     omega (arith, all.few, ap length p.2)
 
-pub bands_fit : (number taken : ℕ) (tag : Tag) (band : Result BandValue VrtFault) (rest : List ℕ) (x : Read) → taken ≤ 262144 → Ok (band, rest) ≡ read_as (band_of number taken tag) x → IfOk band (λ b. taken + length b.sources ≤ 262144)
+pub bands_fit : (number taken : ℕ) (tag : Tag) (band : Result BandValue VrtFault) (rest : List ℕ) (x : ForestRead) → taken ≤ 262144 → Ok (band, rest) ≡ read_as (band_of number taken tag) x → IfOk band (λ b. taken + length b.sources ≤ 262144)
 bands_fit number taken tag (Err e) rest x some h = tt
 bands_fit number taken tag (Ok b) rest (Err e) some h = absurd cc
 bands_fit number taken tag (Ok b) rest (Ok y) some h = band_fits number taken tag b y.0 some (sym (ap (λ (r : Result (Result BandValue VrtFault × List ℕ) VrtFault). value_of r) h))

@@ -1,6 +1,6 @@
 -- A part that is put in its place, among the parts of which it is one, and a child that is read past.
 use Rattle.std.proofs.Common.{◌≡◌, ℕ, List, Option, Some, None, Result, Ok, Err, OnErr, IfOk, IfSome, subst, sym, ap}
-use Rattle.vrt_markup.specs.Forest.{Forest, Read, read_as}
+use Rattle.vrt_markup.specs.Forest.{Forest, ForestRead, read_as}
 use Rattle.vrt_markup.specs.Kept.{Gives, kept_of}
 use Rattle.vrt_markup.specs.declared.fault.VrtFault.{VrtFault}
 use Rattle.vrt_markup.proofs.Reading.{ok_value, gives_then}
@@ -18,11 +18,11 @@ once_put all None new (Err f) (Ok u) h = absurd cc
 once_put all None new (Err f) (Err e) h = cc
 
 -- a child that is put in its place is put among the parts
-pub put_gives : {A B X : Type 0} (rest : X → List ℕ) (all : Option A → B) (old new : Option A) (m : Forest → Result A VrtFault) (r : Result (Result (Unit {0}) VrtFault × X) VrtFault) (x : Read) → Gives (λ y. (kept_of new y.0, rest y.1)) r (read_as (λ f. once old (m f) Some) x) → Gives (λ y. (kept_of (all new) y.0, rest y.1)) r (read_as (λ f. once old (m f) (λ v. all (Some v))) x)
+pub put_gives : {A B X : Type 0} (rest : X → List ℕ) (all : Option A → B) (old new : Option A) (m : Forest → Result A VrtFault) (r : Result (Result (Unit {0}) VrtFault × X) VrtFault) (x : ForestRead) → Gives (λ y. (kept_of new y.0, rest y.1)) r (read_as (λ f. once old (m f) Some) x) → Gives (λ y. (kept_of (all new) y.0, rest y.1)) r (read_as (λ f. once old (m f) (λ v. all (Some v))) x)
 put_gives rest all old new m r x h = gives_then rest (kept_of new) (kept_of (all new)) (λ f. once old (m f) Some) (λ f. once old (m f) (λ v. all (Some v))) r x (λ k f e. once_put all old new (m f) k e) h
 
 -- a child that is read past leaves the parts as they are, or is a fault
-pub past_gives : {B X : Type 0} (rest : X → List ℕ) (s : B) (kept : Result (Unit {0}) VrtFault) (r : Result (Result (Unit {0}) VrtFault × X) VrtFault) (x : Read) → Gives (λ y. (y.0, rest y.1)) r (read_as (λ f. kept) x) → Gives (λ y. (kept_of s y.0, rest y.1)) r (read_as (λ f. kept_of s kept) x)
+pub past_gives : {B X : Type 0} (rest : X → List ℕ) (s : B) (kept : Result (Unit {0}) VrtFault) (r : Result (Result (Unit {0}) VrtFault × X) VrtFault) (x : ForestRead) → Gives (λ y. (y.0, rest y.1)) r (read_as (λ f. kept) x) → Gives (λ y. (kept_of s y.0, rest y.1)) r (read_as (λ f. kept_of s kept) x)
 past_gives rest s kept r x h = gives_then rest (λ (k : Done). k) (kept_of s) (λ f. kept) (λ f. kept_of s kept) r x (λ k f e. ap (kept_of s) e) h
 
 -- a rule that the part in its place keeps

@@ -4,8 +4,8 @@ use Rattle.std.specs.Prelude.{◌==◌}
 use Rattle.std.specs.Str.Pattern.{FindsTextPrefix, FindsCharPrefix}
 use Rattle.std.proofs.lemmas.Str.Pattern.{strip_prefix_char}
 use Rattle.outside.specs.Names.{folder_part}
-use Rattle.outside.specs.Paths.{normal, IsName, is_absolute, pieces, parts_of, with_part, spelled}
-use Rattle.outside.proofs.Normal.{pieces-append, normal-shorter}
+use Rattle.outside.specs.Paths.{normal, IsName, is_absolute, between_slashes, kept_parts, with_part, path_of_parts}
+use Rattle.outside.proofs.Normal.{between_slashes-append, normal-shorter}
 use Rattle.lists_and_answers.specs.Options.{◌>>=◌}
 use Rattle.vrt_markup.specs.Items.{strip, begins, byte_at}
 use Rattle.vrt_profile.specs.Values.{SourceValue}
@@ -59,7 +59,7 @@ pub byte_stripped : (c : ℕ) (t : List ℕ) (r : Option (Bor (List ℕ))) → M
 byte_stripped c t r h low = byte_from c t r (strip_prefix_char c t r h low)
 
 -- two slashes beside each other are never in a normal path
-past_empty : (absolute : Bool) (before ps qs : List (List ℕ)) → parts_of absolute before (ps ++ [] ∷ qs) ≡ parts_of absolute before (ps ++ qs)
+past_empty : (absolute : Bool) (before ps qs : List (List ℕ)) → kept_parts absolute before (ps ++ [] ∷ qs) ≡ kept_parts absolute before (ps ++ qs)
 past_empty absolute before [] qs = refl
 past_empty absolute before (p ∷ ps) qs = past_empty absolute (with_part absolute before p) ps qs
 
@@ -67,15 +67,15 @@ absolute_front : (x y : List ℕ) → is_absolute (x ++ 47 ∷ 47 ∷ y) ≡ is_
 absolute_front [] y = refl
 absolute_front (c ∷ cs) y = refl
 
-pieces_two : (x y : List ℕ) → pieces (x ++ 47 ∷ 47 ∷ y) ≡ pieces x ++ [] ∷ pieces y
-pieces_two x y = pieces-append x (47 ∷ y) ∙ ap (λ (p : List (List ℕ)). pieces x ++ p) (pieces-append [] y)
+pieces_two : (x y : List ℕ) → between_slashes (x ++ 47 ∷ 47 ∷ y) ≡ between_slashes x ++ [] ∷ between_slashes y
+pieces_two x y = between_slashes-append x (47 ∷ y) ∙ ap (λ (p : List (List ℕ)). between_slashes x ++ p) (between_slashes-append [] y)
 
 one_slash : (x y : List ℕ) → normal (x ++ 47 ∷ 47 ∷ y) ≡ normal (x ++ 47 ∷ y)
 unfolding normal
 one_slash x y =
-    ap (λ (a : Bool). spelled a (parts_of a [] (pieces (x ++ 47 ∷ 47 ∷ y)))) (absolute_front x y)
-    ∙ ap (λ (p : List (List ℕ)). spelled (is_absolute (x ++ 47 ∷ y)) (parts_of (is_absolute (x ++ 47 ∷ y)) [] p)) (pieces_two x y)
-    ∙ ap (spelled (is_absolute (x ++ 47 ∷ y))) (past_empty (is_absolute (x ++ 47 ∷ y)) [] (pieces x) (pieces y) ∙ sym (ap (parts_of (is_absolute (x ++ 47 ∷ y)) []) (pieces-append x y)))
+    ap (λ (a : Bool). path_of_parts a (kept_parts a [] (between_slashes (x ++ 47 ∷ 47 ∷ y)))) (absolute_front x y)
+    ∙ ap (λ (p : List (List ℕ)). path_of_parts (is_absolute (x ++ 47 ∷ y)) (kept_parts (is_absolute (x ++ 47 ∷ y)) [] p)) (pieces_two x y)
+    ∙ ap (path_of_parts (is_absolute (x ++ 47 ∷ y))) (past_empty (is_absolute (x ++ 47 ∷ y)) [] (between_slashes x) (between_slashes y) ∙ sym (ap (kept_parts (is_absolute (x ++ 47 ∷ y)) []) (between_slashes-append x y)))
 
 no_double : (x y : List ℕ) → normal (x ++ 47 ∷ 47 ∷ y) ≡ x ++ 47 ∷ 47 ∷ y → ⊥
 no_double x y e =

@@ -4,7 +4,8 @@ use Rattle.std.proofs.lemmas.Bool.Decides.{nat_tests}
 use Rattle.std.proofs.lemmas.Int.{ints}
 use Rattle.geotransform.specs.Decimal.{whole_of, parts_of, exact, mantissa, power, signed, IsRead}
 use Rattle.geotransform.specs.Geo.{Transform, IsTransform, transform_of, is_near, is_step}
-use Rattle.vrt_profile.specs.Scaling.{ScalingValue, scaling_of}
+use Rattle.vrt_profile.specs.Scaling.{ScalingValue}
+use Rattle.vrt_profile.specs.ScalingViews.{scaling_of}
 use Rattle.vrt_profile.specs.Values.{IsDecimal}
 use Rattle.vrt_profile.specs.declared.rectangle.LutPair.{LutPair}
 use Rattle.vrt_markup.proofs.Shorter.{bind_some, guard_some}

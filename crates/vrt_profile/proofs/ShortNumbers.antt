@@ -14,11 +14,11 @@ use Rattle.std.proofs.Math.Nat.{add-mul, mul_assoc, mul-le-mul_right}
 use Rattle.std.specs.Prelude.{◌+ℤ◌, ◌-ℤ◌}
 use Rattle.lists_and_answers.specs.Options.{◌>>=◌}
 use Rattle.lists_and_answers.specs.Texts.{is_white}
-use Rattle.geotransform.specs.Decimal.{number, scaled, signed, sign_at, digits_at, fraction_at, exponent_of, Decimal, parts_of, places_of, exact, whole_of, near_at, magnitude, magnitude_at}
+use Rattle.geotransform.specs.Decimal.{number, scaled, signed, sign_at, digits_at, fraction_at, exponent_of, Decimal, parts_of, places_of, exact, whole_of, rounded_near, magnitude, rounded_magnitude}
 use Rattle.geotransform.proofs.Numbers.{number_short, number-append, all_taken}
 use Rattle.vrt_markup.specs.Items.{option_case}
-use Rattle.vrt_profile.specs.Fields.{length_before, cut_by, cut_at, first_piece, trim, trim_end, near_by, near_number, pair_of}
-use Rattle.vrt_profile.specs.Fronts.{is_inner, is_of_key, DigitRun, DigitsFront, FractionFront, DecimalFront, MicrosFront, pair_with, PairFront}
+use Rattle.vrt_profile.specs.Fields.{length_before, cut_by, cut_at, trim, trim_end, near_by, near_number, pair_of}
+use Rattle.vrt_profile.specs.Fronts.{first_piece, is_inner, is_of_key, DigitRun, DigitsFront, FractionFront, DecimalFront, MicrosFront, pair_with, PairFront}
 use Rattle.vrt_profile.specs.declared.rectangle.LutPair.{LutPair}
 use Rattle.vrt_profile.specs.Values.{million}
 use Rattle.vrt_profile.proofs.Rules.{signed_size}
@@ -129,7 +129,7 @@ grown_by a b p q r e = add-mul (a * p) b q ∙ ap (λ n. n + b * q) (mul_assoc a
 places : (k n : ℕ) → k ≤ n → 10 ^ k * 10 ^ (n - k) ≡ 10 ^ n
 places k n le = sym (pow-add 10 k (n - k)) ∙ ap (λ m. 10 ^ m) (omega (arith, le))
 
-magnitude_is : (n : ℕ) (negative : Bool) (digits fraction : List ℕ) → length fraction ≤ n → magnitude_at n (decimal negative digits fraction) ≡ number digits * 10 ^ n + number fraction * 10 ^ (n - length fraction)
+magnitude_is : (n : ℕ) (negative : Bool) (digits fraction : List ℕ) → length fraction ≤ n → rounded_magnitude n (decimal negative digits fraction) ≡ number digits * 10 ^ n + number fraction * 10 ^ (n - length fraction)
 magnitude_is n negative digits fraction le =
     let power : (pos 0 -ℤ pos (length fraction)) +ℤ pos n ≡ pos (n - length fraction) = omega (arith, ints, le) in
     ap (scaled (number (digits ++ fraction))) power
@@ -151,8 +151,8 @@ places_decimal text rest m t negative d sign short =
     let small : number d.digits < 10 ^ 9 = number_short d.digits 9 d.all d.few in
     let wide : magnitude p < 10 ^ 28 = omega (arith, magnitude_is 16 negative d.digits d.fraction few, below_whole 16 d.fraction d.all_behind few, small) in
     let near : nat_lt (magnitude p) (10 ^ 28) ≡ true = grind (arith, nat_tests, wide) in
-    let value : near_at 6 p ≡ Some m = guard (nat_lt (magnitude p) (10 ^ 28)) (magnitude_at 6 p) near ∙ ap (λ n. Some n) (magnitude_is 6 negative d.digits d.fraction d.few_behind ∙ sym d.value) in
-    ap (λ p. p >>= λ d. near_at 6 d >>= λ n. Some (signed d.negative n)) (parts_at t d.body d.digits d.tail d.fraction negative sign d.cut d.behind short d.some)
+    let value : rounded_near 6 p ≡ Some m = guard (nat_lt (magnitude p) (10 ^ 28)) (rounded_magnitude 6 p) near ∙ ap (λ n. Some n) (magnitude_is 6 negative d.digits d.fraction d.few_behind ∙ sym d.value) in
+    ap (λ p. p >>= λ d. rounded_near 6 d >>= λ n. Some (signed d.negative n)) (parts_at t d.body d.digits d.tail d.fraction negative sign d.cut d.behind short d.some)
     ∙ ap (λ v. v >>= λ n. Some (signed negative n)) value
 
 near_decimal : (text rest : List ℕ) (m : ℕ) (number_text : List ℕ) (negative : Bool) (d : DecimalFront text m rest) → list_all is_inner number_text ≡ true → places_of 6 number_text ≡ Some (signed negative m) → near_number number_text ≡ Some (signed negative m)

@@ -5,11 +5,12 @@ use Rattle.std.proofs.lemmas.Bool.Decides.{nat_tests}
 use Rattle.std.proofs.lemmas.List.Elements.{All-nil, All-cons}
 use Rattle.lists_and_answers.specs.Answers.{◌>>=◌}
 use Rattle.vrt_markup.specs.Items.{option_case}
-use Rattle.vrt_profile.specs.Fields.{length_before, cut_by, cut_at, pieces, onto, first_piece, trim, near_by, near_number, pair_of}
+use Rattle.vrt_profile.specs.Fields.{length_before, cut_by, cut_at, pieces, onto, trim, near_by, near_number, pair_of}
+use Rattle.vrt_profile.specs.Fronts.{first_piece, lut_behind}
 use Rattle.geotransform.specs.Decimal.{places_of}
 use Rattle.vrt_markup.proofs.Shorter.{bind_some}
 use Rattle.vrt_profile.proofs.Rules.{guard_true}
-use Rattle.vrt_profile.specs.Numbers.{is_above, rising_pair, next_pair, lut_from, lut_behind, lut_of}
+use Rattle.vrt_profile.specs.Numbers.{is_above, rising_pair, next_pair, lut_from, lut_of}
 use Rattle.vrt_profile.specs.Values.{million, is_below, is_rising, IsPair, IsLut}
 use Rattle.vrt_profile.specs.declared.rectangle.LutPair.{LutPair}
 use Rattle.vrt_markup.specs.declared.fault.VrtFault.{VrtFault}

@@ -6,7 +6,7 @@ use Rattle.std.specs.Char.{is_ascii_digit}
 use Rattle.std.proofs.lemmas.List.{length-append}
 use Rattle.std.proofs.lemmas.Bool.Decides.{nat_tests}
 use Rattle.lists_and_answers.specs.Options.{◌>>=◌}
-use Rattle.geotransform.specs.Decimal.{number, scaled, signed, sign_at, short_number, is_exponent_mark, exponent_behind, Decimal, parts_of, places_of, near_at, magnitude, magnitude_at}
+use Rattle.geotransform.specs.Decimal.{number, scaled, signed, sign_at, short_number, is_exponent_mark, exponent_behind, Decimal, parts_of, places_of, rounded_near, magnitude, rounded_magnitude}
 use Rattle.geotransform.proofs.Numbers.{half_of_few}
 use Rattle.vrt_profile.specs.Fields.{near_by, near_number}
 use Rattle.vrt_profile.specs.Fronts.{is_inner, DigitRun, MicrosFront}
@@ -54,7 +54,7 @@ still_zero : (e : ℤ) → scaled 0 e ≡ 0
 still_zero (pos k) = omega arith
 still_zero (negsuc k) = half_of_few [] (suc k) refl (omega arith)
 
-zero_at : (e : ℤ) (k : ℕ) → magnitude_at k (zero_to e) ≡ 0
+zero_at : (e : ℤ) (k : ℕ) → rounded_magnitude k (zero_to e) ≡ 0
 zero_at e k = still_zero ((e -ℤ pos 0) +ℤ pos k)
 
 zero_places : (c : ℕ) (text : List ℕ) (e : ℤ) → is_exponent_mark c ≡ true → exponent_behind text ≡ Some e → length text ≤ 4 → places_of 6 (48 ∷ c ∷ text) ≡ Some (pos 0)
@@ -64,8 +64,8 @@ zero_places c text e mark exponent few =
     let none : magnitude p ≡ 0 = zero_at e 16 in
     let wide : magnitude p < 10 ^ 28 = omega (arith, none) in
     let near : nat_lt (magnitude p) (10 ^ 28) ≡ true = grind (arith, nat_tests, wide) in
-    let value : near_at 6 p ≡ Some 0 = guard (nat_lt (magnitude p) (10 ^ 28)) (magnitude_at 6 p) near ∙ ap (λ n. Some n) (zero_at e 6) in
-    ap (λ p. p >>= λ d. near_at 6 d >>= λ n. Some (signed d.negative n)) (zero_parts c text e mark exponent few)
+    let value : rounded_near 6 p ≡ Some 0 = guard (nat_lt (magnitude p) (10 ^ 28)) (rounded_magnitude 6 p) near ∙ ap (λ n. Some n) (zero_at e 6) in
+    ap (λ p. p >>= λ d. rounded_near 6 d >>= λ n. Some (signed d.negative n)) (zero_parts c text e mark exponent few)
     ∙ ap (λ v. v >>= λ n. Some (signed false n)) value
 
 near_zero : (text : List ℕ) → list_all is_inner text ≡ true → places_of 6 text ≡ Some (pos 0) → near_number text ≡ Some (pos 0)

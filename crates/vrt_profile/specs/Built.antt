@@ -4,8 +4,13 @@ use Rattle.vrt_profile.specs.Values.{million, trillion, Rectangle, SourceValue}
 use Rattle.geotransform.specs.Limits.{farthest}
 
 -- a rectangle of whole pixels
-abbrev pub pixels_at : ℤ → ℤ → ℤ → ℤ → Rectangle
-pixels_at x y w h = record { x = pos million *ℤ x; y = pos million *ℤ y; w = pos million *ℤ w; h = pos million *ℤ h }
+abbrev pub pixel_rectangle : ℤ → ℤ → ℤ → ℤ → Rectangle
+pixel_rectangle x y w h = record {
+  x = pos million *ℤ x;
+  y = pos million *ℤ y;
+  w = pos million *ℤ w;
+  h = pos million *ℤ h;
+}
 
 -- An offset in whole pixels is within its limits, and so is a side.
 abbrev pub IsPixelOffset : ℤ → Type 0

@@ -1,17 +1,13 @@
 -- A whole document.
 use Rattle.std.specs.Prelude.{ℕ, List, Result}
 use Rattle.lists_and_answers.specs.Answers.{◌>>=◌}
-use Rattle.vrt_markup.specs.Tree.{Tree, markup_of, tree_of}
+use Rattle.vrt_markup.specs.Tree.{Tree, tree_of}
 use Rattle.vrt_markup.specs.declared.fault.VrtFault.{VrtFault}
 use Rattle.vrt_profile.specs.Means.{root_of}
 use Rattle.vrt_profile.specs.Values.{DocumentValue}
 
 abbrev pub means : Tree → Result DocumentValue VrtFault
 means t = root_of t.place t.tag t.inside
-
--- the document of a text that is UTF-8
-abbrev pub markup_means : List ℕ → Result DocumentValue VrtFault
-markup_means bytes = markup_of bytes >>= means
 
 -- What the bytes mean: the first fault of the first pass, else of the second.
 abbrev pub document_of : List ℕ → Result DocumentValue VrtFault

@@ -6,7 +6,7 @@ use Rattle.lists_and_answers.specs.Options.{◌>>=◌}
 use Rattle.lists_and_answers.specs.Texts.{is_white}
 use Rattle.geotransform.specs.Decimal.{number_of, places_of, ticks_of}
 use Rattle.geotransform.specs.Limits.{most_short_digits}
-use Rattle.vrt_markup.specs.Items.{trim_front, option_case}
+use Rattle.vrt_markup.specs.Items.{trim_front}
 use Rattle.vrt_profile.specs.Values.{million, pair_limit}
 use Rattle.vrt_profile.specs.declared.rectangle.LutPair.{LutPair}
 
@@ -54,10 +54,6 @@ pair_of text = do
   input ← near_number x.0
   output ← near_number x.1
   Some (record { input = input; output = output })
-
--- what stands before the first comma, or all, and what stands behind that comma
-abbrev pub first_piece : List ℕ → List ℕ × Option (List ℕ)
-first_piece text = option_case (cut_at comma text) (text, None) (λ x. (x.0, Some x.1))
 
 -- the pieces with one more byte in front of the first
 abbrev pub onto : ℕ → List (List ℕ) → List (List ℕ)

@@ -1,13 +1,17 @@
 -- Short numbers in front of a text, and what stands behind them.
 use Rattle.std.specs.Prelude.{◌≡◌, ℕ, ℤ, ◌<◌, ◌≤◌, ◌+◌, ◌-◌, ◌*◌, ◌^◌, ◌==◌, ◌&&◌, not, Bool, true, List, [], ◌∷◌, ◌++◌}
-use Rattle.std.specs.Prelude.{length, Option, Some}
+use Rattle.std.specs.Prelude.{length, Option, Some, None, Result, Ok}
 use Rattle.std.specs.Option.{option_map}
 use Rattle.std.specs.List.{list_all}
 use Rattle.std.specs.Char.{is_ascii_digit}
 use Rattle.lists_and_answers.specs.Texts.{is_white}
+use Rattle.lists_and_answers.specs.Answers.{◌>>=◌}
 use Rattle.geotransform.specs.Decimal.{number, digits_at, fraction_at, places_of}
-use Rattle.vrt_profile.specs.Fields.{colon, comma, near_number, pair_of}
+use Rattle.vrt_markup.specs.Items.{option_case}
+use Rattle.vrt_markup.specs.declared.fault.VrtFault.{VrtFault}
+use Rattle.vrt_profile.specs.Fields.{colon, comma, near_number, pair_of, cut_at, pieces}
 use Rattle.vrt_profile.specs.declared.rectangle.LutPair.{LutPair}
+use Rattle.vrt_profile.specs.Numbers.{lut_from}
 
 -- a byte that neither parts nor is white space
 abbrev pub is_inner : ℕ → Bool
@@ -85,3 +89,11 @@ pub record PairFront (text : List ℕ) (pair : LutPair) (rest : List ℕ) : Type
   pub whole : text ≡ front ++ rest
   pub commas : list_all (λ c. not (c == comma)) front ≡ true
   pub value : pair_of front ≡ Some pair
+
+-- what stands before the first comma, or all, and what stands behind that comma
+abbrev pub first_piece : List ℕ → List ℕ × Option (List ℕ)
+first_piece text = option_case (cut_at comma text) (text, None) (λ x. (x.0, Some x.1))
+
+-- the pairs of a table by those in front of a text, the last one of which this is, and by what the text gives
+abbrev pub lut_behind : List LutPair → Option LutPair → List ℕ → Result (List LutPair) VrtFault
+lut_behind pairs last text = lut_from (length pairs) last (pieces comma text) >>= λ more. Ok (pairs ++ more)

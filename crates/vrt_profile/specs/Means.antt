@@ -17,14 +17,14 @@ use Rattle.vrt_markup.specs.Forest.{Forest, over, all_white, text_of, child_of}
 use Rattle.vrt_markup.specs.Kept.{no_child}
 use Rattle.vrt_profile.specs.Values.{trillion, Rectangle, SourceValue, BandValue, DocumentValue, most_sources}
 use Rattle.vrt_profile.specs.declared.rectangle.LutPair.{LutPair}
-use Rattle.vrt_profile.specs.declared.parts.SourcePart.{SourcePart}
-use Rattle.vrt_profile.specs.declared.parts.SourcePart.TheVariants as source_part
-use Rattle.vrt_profile.specs.declared.parts.NumberPart.{NumberPart}
-use Rattle.vrt_profile.specs.declared.parts.NumberPart.TheVariants as number_part
-use Rattle.vrt_profile.specs.declared.parts.BandPart.{BandPart}
-use Rattle.vrt_profile.specs.declared.parts.BandPart.TheVariants as band_part
-use Rattle.vrt_profile.specs.declared.parts.DatasetPart.{DatasetPart}
-use Rattle.vrt_profile.specs.declared.parts.DatasetPart.TheVariants as dataset_part
+use Rattle.vrt_profile.specs.declared.elements.SourcePart.{SourcePart}
+use Rattle.vrt_profile.specs.declared.elements.SourcePart.TheVariants as source_part
+use Rattle.vrt_profile.specs.declared.elements.NumberPart.{NumberPart}
+use Rattle.vrt_profile.specs.declared.elements.NumberPart.TheVariants as number_part
+use Rattle.vrt_profile.specs.declared.elements.BandPart.{BandPart}
+use Rattle.vrt_profile.specs.declared.elements.BandPart.TheVariants as band_part
+use Rattle.vrt_profile.specs.declared.elements.DatasetPart.{DatasetPart}
+use Rattle.vrt_profile.specs.declared.elements.DatasetPart.TheVariants as dataset_part
 use Rattle.vrt_markup.specs.declared.fault.VrtFault.{VrtFault}
 use Rattle.vrt_markup.specs.declared.fault.VrtFault.TheVariants.{UnknownElement, MissingPart, BadNumber, Unsupported}
 use Rattle.vrt_markup.specs.declared.fault.VrtFault.TheVariants.{Limit}
@@ -124,7 +124,7 @@ rect_of tag inside = do
   y ← offset_in (attribute (codes "yOff") tag.pairs)
   w ← size_in (attribute (codes "xSize") tag.pairs)
   h ← size_in (attribute (codes "ySize") tag.pairs)
-  blank ← wants (all_white inside) Unsupported
+  white ← wants (all_white inside) Unsupported
   bare ← over no_child true inside
   Ok (record { x = x; y = y; w = w; h = h })
 

@@ -1,7 +1,6 @@
 -- The numbers of a document, each in a text.
-use Rattle.std.specs.Prelude.{ℕ, ℤ, pos, suc, ◌*◌, Bool, true, ◌&&◌, List, [], ◌∷◌, ◌++◌, length, take, map, codes}
-use Rattle.std.specs.Prelude.{Option, Some, None, ok_or, Result, Ok, Err, nat_lt, nat_le, int_lt, ◌==◌}
-use Rattle.std.specs.Prelude.{if◌then◌else◌, unsigned_abs}
+use Rattle.std.specs.Prelude.{ℕ, ℤ, pos, suc, ◌*◌, Bool, true, ◌&&◌, List, [], ◌∷◌, take, map, codes, Option, Some}
+use Rattle.std.specs.Prelude.{None, ok_or, Result, Ok, Err, nat_lt, nat_le, int_lt, ◌==◌, if◌then◌else◌, unsigned_abs}
 use Rattle.std.specs.Char.{to_ascii_lowercase}
 use Rattle.lists_and_answers.specs.Answers.{◌>>=◌}
 use Rattle.geotransform.specs.Decimal.{places_of}
@@ -82,10 +81,6 @@ lut_from n last (piece ∷ more) = next_pair n last piece >>= λ pair. lut_from 
 
 abbrev pub lut_of : List ℕ → Result (List LutPair) VrtFault
 lut_of text = lut_from 0 None (pieces comma text)
-
--- the pairs of a table by those in front of a text, the last one of which this is, and by what the text gives
-abbrev pub lut_behind : List LutPair → Option LutPair → List ℕ → Result (List LutPair) VrtFault
-lut_behind pairs last text = lut_from (length pairs) last (pieces comma text) >>= λ more. Ok (pairs ++ more)
 
 -- without a rotation
 abbrev pub north_up : Six → Result Transform VrtFault

@@ -43,8 +43,8 @@ abbrev pub complex_value : SourceValue → ℤ → Option ℤ
 complex_value s pixel = if is_nodata s.nodata pixel then None else Some (whole_by s.lut (pixel *ℤ s.ratio +ℤ s.offset))
 
 -- What a source makes of a pixel.
-unfoldable pub value_of : SourceValue → ℤ → Option ℤ
-value_of s pixel = if s.complex then complex_value s pixel else Some pixel
+unfoldable pub source_value : SourceValue → ℤ → Option ℤ
+source_value s pixel = if s.complex then complex_value s pixel else Some pixel
 
 -- whether a source gives each pixel as it is, but its NODATA: it is neither scaled nor has it a table
 abbrev pub is_plain : SourceValue → Bool
@@ -56,7 +56,7 @@ takes_kind s kind = is_plain s || nat_le (byte_count kind) 4
 
 -- what a source gives at a pixel of the mosaic, where the pixels of its dataset are these
 abbrev pub given_of : SourceValue → Size → Size → (ℕ → ℕ → ℤ) → ℕ → ℕ → Option ℤ
-given_of s mosaic size pixels x y = cover_of s mosaic size x y >>= λ place. value_of s (pixels place.0 place.1)
+given_of s mosaic size pixels x y = cover_of s mosaic size x y >>= λ place. source_value s (pixels place.0 place.1)
 
 -- what the last of the sources gives that gives something
 abbrev pub last_given : (SourceValue → Option ℤ) → List SourceValue → Option ℤ

@@ -14,9 +14,9 @@ ghost use Rattle.vrt_markup.specs.Views.{tag_view};
 ghost use Rattle.vrt_markup.specs.Kept.{Gives, seen, kept_of};
 
 use crate::document::{Sources, VrtBand};
+use crate::elements::{BandPart, band_part_of};
 use crate::fields::whole_text;
 use crate::numbers::NoData;
-use crate::parts::{BandPart, band_part_of};
 use crate::puts::{past_child, put_once};
 use crate::source::{nodata_by, source_element};
 use geotransform::{PixelType, when_in};
@@ -220,13 +220,13 @@ fn band_by(
     seen: Seen,
     parts: BandParts,
 ) -> Result<VrtBand, VrtFault>
-    ensures band { result ≡ band_by kind placed sourced seen.blank (kept_of parts seen.kept) }
+    ensures band { result ≡ band_by kind placed sourced seen.white (kept_of parts seen.kept) }
 {
     let kind = kind?;
     if !placed {
         return Err(VrtFault::BadNumber);
     }
-    if !(sourced && seen.blank) {
+    if !(sourced && seen.white) {
         return Err(VrtFault::Unsupported);
     }
     match seen.kept {

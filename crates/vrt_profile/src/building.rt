@@ -7,7 +7,7 @@ ghost use Rattle.vrt_profile.specs.Values.{IsDecimal, IsOffset, IsRectangle, mil
 ghost use Rattle.vrt_profile.specs.Values.{most_sources};
 ghost use Rattle.vrt_profile.specs.Cover.{whole};
 ghost use Rattle.vrt_profile.specs.Resolve.{related};
-ghost use Rattle.vrt_profile.specs.Built.{pixels_at, IsPixelOffset, IsPixelSide, plain_source};
+ghost use Rattle.vrt_profile.specs.Built.{pixel_rectangle, IsPixelOffset, IsPixelSide, plain_source};
 ghost use Rattle.geotransform.specs.Limits.{most_bands, whole_limit};
 
 use crate::document::{Document, Source, Sources, VrtBand, VrtBands};
@@ -40,7 +40,7 @@ pub fn pixel_rect(x: i128, y: i128, w: i128, h: i128) -> MicroRect
     requires y { IsPixelOffset y }
     requires w { IsPixelSide w }
     requires h { IsPixelSide h }
-    ensures rect { result ≡ pixels_at x y w h }
+    ensures rect { result ≡ pixel_rectangle x y w h }
 {
     MicroRect {
         x: micro(x),
@@ -63,6 +63,7 @@ pub fn whole_rect(size: Size) -> MicroRect
 fn rect_rules(rect: MicroRect)
     ensures rules { IsRectangle rect }
 {
+    // This is read for the proof: the rules of a rectangle.
     let _x = rect.x;
 }
 

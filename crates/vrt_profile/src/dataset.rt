@@ -15,9 +15,9 @@ ghost use Rattle.geotransform.specs.Limits.{most_side};
 
 use crate::band::band_element;
 use crate::document::{Document, VrtBand, VrtBands};
+use crate::elements::{DatasetPart, dataset_part_of};
 use crate::kept::text_by;
 use crate::numbers::{geo_of, side_in};
-use crate::parts::{DatasetPart, dataset_part_of};
 use crate::puts::{past_child, put_once};
 use geotransform::{GeoTransform, Size};
 use lists_and_answers::Items;
@@ -248,11 +248,11 @@ fn dataset_by(
 ) -> Result<Document, VrtFault>
     requires w { IfOk w (λ n. (0 < n) × (n ≤ most_side)) }
     requires h { IfOk h (λ n. (0 < n) × (n ≤ most_side)) }
-    ensures document { result ≡ dataset_by w h derived seen.blank (kept_of parts seen.kept) }
+    ensures document { result ≡ dataset_by w h derived seen.white (kept_of parts seen.kept) }
 {
     let w = w?;
     let h = h?;
-    if derived || !seen.blank {
+    if derived || !seen.white {
         return Err(VrtFault::Unsupported);
     }
     match seen.kept {

@@ -116,6 +116,7 @@ impl Source {
     pub fn rules(&self)
         ensures rules { IsSource self.now }
     {
+        // This is read for the proof: what holds of every source is known then.
         let _band = &self.band;
     }
 
@@ -199,6 +200,7 @@ impl VrtBand {
     pub fn rules(&self)
         ensures rules { IsBand self.now }
     {
+        // This is read for the proof: what holds of every band is known then.
         let _kind = &self.kind;
     }
 }
@@ -208,6 +210,7 @@ impl Document {
     pub fn rules(&self)
         ensures rules { IsDocument self.now }
     {
+        // This is read for the proof: what holds of every document is known then.
         let _size = &self.size;
     }
 }

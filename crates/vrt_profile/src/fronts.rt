@@ -3,8 +3,8 @@ ghost use Rattle.std.specs.Prelude.{◌≡◌, ◌<◌, ◌≤◌, ◌*◌, ◌-
 ghost use Rattle.std.specs.Option.{option_map};
 ghost use Rattle.geotransform.specs.Decimal.{places_of, whole_of, signed, sign_at, is_exponent_mark};
 ghost use Rattle.vrt_profile.specs.Fronts.{IsDigitFront, DigitRun, DigitsFront, FractionFront, DecimalFront};
-ghost use Rattle.vrt_profile.specs.Fronts.{MicrosFront, PairFront};
-ghost use Rattle.vrt_profile.specs.Fields.{first_piece, near_number, pair_of};
+ghost use Rattle.vrt_profile.specs.Fronts.{MicrosFront, PairFront, first_piece};
+ghost use Rattle.vrt_profile.specs.Fields.{near_number, pair_of};
 
 use crate::rectangle::LutPair;
 use geotransform::decimal::sign_at;

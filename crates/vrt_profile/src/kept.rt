@@ -45,5 +45,6 @@ pub fn text_by(alloc: Global, words: &Words) -> Result<Result<Text, VrtFault>, V
 pub fn text_rules(text: &Text)
     ensures utf8 { IsUtf8 text.now }
 {
+    // This call is made for the proof: a text is UTF-8.
     let _text = text.as_str();
 }

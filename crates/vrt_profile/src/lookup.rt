@@ -2,9 +2,9 @@
 ghost use Rattle.std.specs.Prelude.{◌≡◌, ℕ, ◌<◌, ◌≤◌, ◌++◌, [], ◌∷◌, Ok, None, Some, List, length, IfOk, IfSome, true};
 ghost use Rattle.std.specs.List.{list_all, prefix_len};
 ghost use Rattle.std.specs.Option.{option_map};
-ghost use Rattle.vrt_profile.specs.Fields.{pieces, first_piece, near_number, pair_of};
-ghost use Rattle.vrt_profile.specs.Numbers.{is_above, rising_pair, next_pair, lut_behind, lut_of};
-ghost use Rattle.vrt_profile.specs.Fronts.{is_of_key, pair_with, MicrosFront};
+ghost use Rattle.vrt_profile.specs.Fields.{pieces, near_number, pair_of};
+ghost use Rattle.vrt_profile.specs.Fronts.{first_piece, lut_behind, is_of_key, pair_with, MicrosFront};
+ghost use Rattle.vrt_profile.specs.Numbers.{is_above, rising_pair, next_pair, lut_of};
 ghost use Rattle.vrt_markup.specs.Kept.{Gives, kept_of};
 
 use crate::fields::{cut_at, near_number};

@@ -3,7 +3,8 @@ ghost use Rattle.std.specs.Prelude.{◌<◌, ◌-◌, Result, Ok, Err};
 ghost use Rattle.lists_and_answers.specs.Answers as answers;
 ghost use Rattle.vrt_markup.specs.Faults.{IsMemory};
 ghost use Rattle.vrt_markup.specs.Kept.{Gives};
-ghost use Rattle.vrt_profile.specs.Document.{markup_means, document_of};
+ghost use Rattle.vrt_profile.specs.Document.{document_of};
+ghost use Rattle.vrt_profile.specs.Seen.{markup_means};
 
 use crate::dataset::root_element;
 use crate::document::Document;

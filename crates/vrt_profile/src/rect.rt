@@ -70,9 +70,9 @@ fn rect_texts(attributes: &[u8]) -> RectTexts
 }
 
 fn rect_end(seen: Seen, rect: MicroRect) -> Result<MicroRect, VrtFault>
-    ensures rect { result ≡ rect_end seen.blank (kept_of true seen.kept) rect }
+    ensures rect { result ≡ rect_end seen.white (kept_of true seen.kept) rect }
 {
-    if !seen.blank {
+    if !seen.white {
         return Err(VrtFault::Unsupported);
     }
     match seen.kept {
@@ -94,7 +94,7 @@ fn rect_by(
     requires y { IfOk y IsOffset }
     requires w { IfOk w (λ v. (pos 0 <ℤ v) × IsOffset v) }
     requires h { IfOk h (λ v. (pos 0 <ℤ v) × IsOffset v) }
-    ensures rect { result ≡ rect_by x y w h seen.blank (kept_of true seen.kept) }
+    ensures rect { result ≡ rect_by x y w h seen.white (kept_of true seen.kept) }
 {
     let x = x?;
     let y = y?;

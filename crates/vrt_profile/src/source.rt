@@ -13,15 +13,16 @@ ghost use Rattle.vrt_profile.specs.Values.{IsSource, IsRectangle, IsLut, scale_l
 ghost use Rattle.vrt_markup.specs.Views.{plain_text, tag_view};
 ghost use Rattle.vrt_markup.specs.Kept.{Gives, kept_of};
 ghost use Rattle.vrt_profile.specs.SourceViews.{source_view, no_source};
-ghost use Rattle.vrt_profile.specs.Scaling.{IsScaling, no_scaling, scaling_of};
+ghost use Rattle.vrt_profile.specs.Scaling.{no_scaling};
+ghost use Rattle.vrt_profile.specs.ScalingViews.{IsScaling, scaling_of};
 ghost use Rattle.geotransform.specs.Limits.{most_bands, whole_limit};
 
 use crate::document::{Source, Sources};
+use crate::elements::{NumberPart, SourcePart, source_part_of};
 use crate::fields::trim;
 use crate::kept::{text_by, text_rules};
 use crate::lookup::lut_of;
 use crate::numbers::{NoData, Scale, band_number, nodata_in, scale_of};
-use crate::parts::{NumberPart, SourcePart, source_part_of};
 use crate::puts::{past_child, put_once};
 use crate::rect::rect_child;
 use crate::rectangle::{Lut, MicroRect};
@@ -463,10 +464,10 @@ fn push_seen(
     sources: &mut Sources,
 ) -> Result<Result<(), VrtFault>, VrtFault>
     ensures pushed { Gives (λ k. kept_of sources.new k) result (Ok (one_more sources.old
-        (source_by complex near seen.blank (kept_of (source_view parts.old) seen.kept)))) }
+        (source_by complex near seen.white (kept_of (source_view parts.old) seen.kept)))) }
     ensures rules { All IsSource sources.old → All IsSource sources.new }
 {
-    if !(near && seen.blank) {
+    if !(near && seen.white) {
         return Ok(Err(VrtFault::Unsupported));
     }
     match seen.kept {

@@ -6,16 +6,16 @@ use Rattle.lists_and_answers.specs.Answers.{◌>>=◌}
 use Rattle.geotransform.specs.Geo.{Transform, IsRaster}
 use Rattle.geotransform.specs.declared.types.Size.{Size}
 use Rattle.vrt_markup.specs.Items.{Tag, open_tag, item_at}
-use Rattle.vrt_markup.specs.Forest.{Read, inner, read_as}
+use Rattle.vrt_markup.specs.Forest.{ForestRead, inner, read_as}
 use Rattle.vrt_markup.specs.Kept.{seen}
 use Rattle.vrt_profile.specs.Numbers.{side_by, side_in}
 use Rattle.vrt_profile.specs.Values.{DocumentValue, IsDocument, IsDecimal}
-use Rattle.vrt_writing.specs.Spelled.{words, written, indent, pair_text, escaped, geo_text, srs_markup, geo_markup, bands_markup, size_pairs, parts_markup, dataset_markup, spelled}
+use Rattle.vrt_writing.specs.Spelled.{words, markup_text, indent, pair_text, escaped, geo_text, srs_markup, geo_markup, bands_markup, size_pairs, parts_markup, dataset_markup, spelled}
 use Rattle.vrt_profile.specs.Means as means_of
 use Rattle.vrt_profile.specs.Means.{DatasetParts, no_dataset_parts, dataset_step, with_srs, srs_by, with_geo, geo_by, root_of}
-use Rattle.vrt_profile.specs.Seen.{dataset_by}
+use Rattle.vrt_profile.specs.Seen.{dataset_by, markup_means}
 use Rattle.vrt_markup.specs.Tree.{Root, root_item, root_at, end_by, end_at, markup_of}
-use Rattle.vrt_profile.specs.Document.{means, markup_means, document_of}
+use Rattle.vrt_profile.specs.Document.{means, document_of}
 use Rattle.vrt_markup.specs.declared.fault.VrtFault.{VrtFault}
 use Rattle.vrt_markup.specs.declared.fault.VrtFault.TheVariants.{MissingPart, BadNumber, Limit}
 use Rattle.vrt_profile.proofs.KeptTexts.{is_text}
@@ -109,10 +109,10 @@ ok_left : {A : Type 0} (a b : A) (s t : List ℕ) → ◌≡◌ {A = Result (A �
 ok_left a b s t e = (ap (left_of a) e, ap (right_of s) e)
 
 -- what the markup means, where the inside of its root is known by what it means
-abbrev behind_inside : ℕ → ℕ → Tag → Read → Result DocumentValue VrtFault
+abbrev behind_inside : ℕ → ℕ → Tag → ForestRead → Result DocumentValue VrtFault
 behind_inside total place tag x = (x >>= λ y. end_at total y.1 >>= λ end. Ok (record { place = place; tag = tag; inside = y.0 })) >>= means
 
-inside_means : (total place : ℕ) (tag : Tag) (d : Result DocumentValue VrtFault) (s : List ℕ) (x : Read) → Ok (d, s) ≡ read_as (root_of place tag) x → end_at total s ≡ Ok [] → behind_inside total place tag x ≡ d
+inside_means : (total place : ℕ) (tag : Tag) (d : Result DocumentValue VrtFault) (s : List ℕ) (x : ForestRead) → Ok (d, s) ≡ read_as (root_of place tag) x → end_at total s ≡ Ok [] → behind_inside total place tag x ≡ d
 inside_means total place tag d s (Ok y) e end =
     let parts = ok_left d (root_of place tag y.0) s y.1 e in
     ap (λ t. (end_at total t >>= λ end. Ok (record { place = place; tag = tag; inside = y.0 })) >>= means) (sym parts.1)
@@ -128,7 +128,7 @@ unfolding markup_of
 markup_starts bytes = refl
 
 abbrev body : DocumentValue → List ℕ
-body d = 10 ∷ (written 1 (parts_markup d) ++ (indent 0 ++ (60 ∷ 47 ∷ codes "VRTDataset" ++ 62 ∷ 10 ∷ [])))
+body d = 10 ∷ (markup_text 1 (parts_markup d) ++ (indent 0 ++ (60 ∷ 47 ∷ codes "VRTDataset" ++ 62 ∷ 10 ∷ [])))
 
 abbrev whole : DocumentValue → List ℕ
 whole d = 60 ∷ (codes "VRTDataset" ++ (flat_map pair_text (size_pairs d.size) ++ 62 ∷ body d))
@@ -138,7 +138,7 @@ root_tag d = tag_of (codes "VRTDataset") (size_pairs d.size) false
 
 spelled_whole : (d : DocumentValue) → spelled d ≡ whole d
 unfolding spelled
-spelled_whole d = sym (append-nil (written 0 (dataset_markup d))) ∙ group_lines 0 (codes "VRTDataset") (size_pairs d.size) (parts_markup d) []
+spelled_whole d = sym (append-nil (markup_text 0 (dataset_markup d))) ∙ group_lines 0 (codes "VRTDataset") (size_pairs d.size) (parts_markup d) []
 
 whole_means : (d : DocumentValue) → IsDocument d → (total place : ℕ) → Ok (Ok d, 10 ∷ []) ≡ read_as (root_of place (root_tag d)) (inner total 0 (root_tag d) (body d))
 unfolding means_of.dataset_of dataset_by

@@ -128,7 +128,7 @@ trim_behind t h =
     ∙ ap (λ k. take k t) whole
     ∙ take_all (length t) t (omega arith)
 
--- Figures, and what stands between them: blanks, commas and colons. They need no entities.
+-- Figures, and what stands between them: spaces, commas and colons. They need no entities.
 abbrev pub is_mark : ℕ → Bool
 is_mark c = is_figure c || ((c == 32) || ((c == 44) || (c == 58)))
 

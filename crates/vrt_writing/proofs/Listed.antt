@@ -9,7 +9,8 @@ use Rattle.geotransform.proofs.Written.{keeps_append, keeps_then}
 use Rattle.vrt_markup.specs.Items.{Pair}
 use Rattle.vrt_profile.specs.Values.{trillion, Rectangle, SourceValue, BandValue, DocumentValue}
 use Rattle.vrt_profile.specs.declared.rectangle.LutPair.{LutPair}
-use Rattle.vrt_writing.specs.Spelled.{Markup, both, group, written, indent, tag_text, pair_text, end_text, lut_pair_text, next_pair_text, lut_text, source_text, band_text, bands_text, file_markup, source_band_markup, rectangle_markup, nodata_markup, scale_markup, lut_markup, srs_markup, geo_markup, band_pairs, source_tag, place_markup, scaling_markup, source_markup, sources_markup, band_markup, bands_markup, parts_markup, dataset_markup, size_pairs, spelled, Appends, AppendsPairs, AppendsTag}
+use Rattle.vrt_writing.specs.Spelled.{Markup, both, group, markup_text, indent, tag_text, pair_text, end_text, lut_pair_text, next_pair_text, lut_text, file_markup, source_band_markup, rectangle_markup, nodata_markup, scale_markup, lut_markup, srs_markup, geo_markup, band_pairs, source_tag, place_markup, scaling_markup, source_markup, sources_markup, band_markup, bands_markup, parts_markup, dataset_markup, size_pairs, spelled}
+use Rattle.vrt_writing.specs.Appended.{source_text, band_text, bands_text, Appends, AppendsPairs, AppendsTag}
 use Rattle.vrt_writing.proofs.Pieces.{two, three, appends_both, keeps_appends}
 
 pub keeps_trans : (a b c : List ℕ) → KeepsFront a b → KeepsFront b c → KeepsFront a c
@@ -21,7 +22,7 @@ pub keeps_append_then : (a b c e : List ℕ) → KeepsFront a b → c ≡ b ++ e
 keeps_append_then a b c e p q = keeps_trans a b c p (keeps_append b c e q)
 
 pub keeps_appended : (a b c : List ℕ) (level : ℕ) (m : Markup) → KeepsFront a b → Appends b c level m → KeepsFront a c
-keeps_appended a b c level m p q = keeps_append_then a b c (written level m) p q.is
+keeps_appended a b c level m p q = keeps_append_then a b c (markup_text level m) p q.is
 
 pub keeps_appends_two : (a b c d : List ℕ) (level : ℕ) (m n : Markup) → Appends a b level m → Appends b c level n → KeepsFront c d → KeepsFront a d
 keeps_appends_two a b c d level m n p q h = keeps_appends a b d level m p (keeps_appends b c d level n q h)
@@ -58,8 +59,8 @@ keeps_tag_two a b c d e name level next pairs m n p q r h = keeps_tag_then a b c
 pub group_made : (a b c d name : List ℕ) (level : ℕ) (pairs : List Pair) (m : Markup) → AppendsTag a b level name pairs → Appends b c (suc level) m → d ≡ c ++ (indent level ++ end_text name) → Appends a d level (group name pairs m)
 group_made a b c d name level pairs m p q r = record {
   is =
-      three a b c d (tag_text level name pairs ++ codes ">\n") (written (suc level) m) (indent level ++ end_text name) p.is q.is r
-      ∙ ap (λ (x : List ℕ). a ++ x) (append_assoc (tag_text level name pairs) (codes ">\n") (written (suc level) m ++ (indent level ++ end_text name)));
+      three a b c d (tag_text level name pairs ++ codes ">\n") (markup_text (suc level) m) (indent level ++ end_text name) p.is q.is r
+      ∙ ap (λ (x : List ℕ). a ++ x) (append_assoc (tag_text level name pairs) (codes ">\n") (markup_text (suc level) m ++ (indent level ++ end_text name)));
 }
 
 pub group_two : (a b c d e name : List ℕ) (level : ℕ) (pairs : List Pair) (m n : Markup) → AppendsTag a b level name pairs → Appends b c (suc level) m → Appends c d (suc level) n → e ≡ d ++ (indent level ++ end_text name) → Appends a e level (group name pairs (both m n))
@@ -68,22 +69,22 @@ group_two a b c d e name level pairs m n p q r s = group_made a b d e name level
 pub source_made : (a b c d e name : List ℕ) (s : SourceValue) → name ≡ source_tag s.complex → AppendsTag a b 2 name [] → Appends b c 3 (place_markup s) → Appends c d 3 (scaling_markup s) → e ≡ d ++ (indent 2 ++ end_text name) → Appends a e 2 (source_markup s)
 source_made a b c d e name s n p q r t = subst (λ (x : List ℕ). Appends a e 2 (group x [] (both (place_markup s) (scaling_markup s)))) n (group_two a b c d e name 2 [] (place_markup s) (scaling_markup s) p q r t)
 
-pub dataset_made : (a b c d : List ℕ) (v : DocumentValue) → AppendsTag a b 0 (codes "VRTDataset") (size_pairs v.size) → Appends b c 1 (parts_markup v) → d ≡ c ++ (indent 0 ++ end_text (codes "VRTDataset")) → d ≡ a ++ written 0 (dataset_markup v)
+pub dataset_made : (a b c d : List ℕ) (v : DocumentValue) → AppendsTag a b 0 (codes "VRTDataset") (size_pairs v.size) → Appends b c 1 (parts_markup v) → d ≡ c ++ (indent 0 ++ end_text (codes "VRTDataset")) → d ≡ a ++ markup_text 0 (dataset_markup v)
 dataset_made a b c d v p q r = (group_made a b c d (codes "VRTDataset") 0 (size_pairs v.size) (parts_markup v) p q r).is
 
 -- one more of a list
-pub sources_text : (ss : List SourceValue) → flat_map source_text ss ≡ written 2 (sources_markup ss)
+pub sources_text : (ss : List SourceValue) → flat_map source_text ss ≡ markup_text 2 (sources_markup ss)
 unfolding source_text
 sources_text [] = refl
-sources_text (s ∷ ss) = ap (λ (x : List ℕ). written 2 (source_markup s) ++ x) (sources_text ss)
+sources_text (s ∷ ss) = ap (λ (x : List ℕ). markup_text 2 (source_markup s) ++ x) (sources_text ss)
 
 pub sources_made : (a b : List ℕ) (ss : List SourceValue) → b ≡ a ++ flat_map source_text ss → Appends a b 2 (sources_markup ss)
 sources_made a b ss p = record { is = p ∙ ap (λ (x : List ℕ). a ++ x) (sources_text ss) }
 
-pub bands_are : (n : ℕ) (bs : List BandValue) → bands_text n bs ≡ written 1 (bands_markup n bs)
+pub bands_are : (n : ℕ) (bs : List BandValue) → bands_text n bs ≡ markup_text 1 (bands_markup n bs)
 unfolding band_text
 bands_are n [] = refl
-bands_are n (b ∷ bs) = ap (λ (x : List ℕ). written 1 (band_markup n b) ++ x) (bands_are (suc n) bs)
+bands_are n (b ∷ bs) = ap (λ (x : List ℕ). markup_text 1 (band_markup n b) ++ x) (bands_are (suc n) bs)
 
 bands_push : (n : ℕ) (bs : List BandValue) (b : BandValue) → bands_text n (bs ++ b ∷ []) ≡ bands_text n bs ++ band_text (n + length bs) b
 bands_push n [] b = append-nil (band_text n b) ∙ ap (λ k. band_text k b) (omega arith)

@@ -9,7 +9,8 @@ use Rattle.lists_and_answers.specs.Growth.{KeepsFront}
 use Rattle.geotransform.proofs.Written.{keeps_itself, keeps_append, keeps_then}
 use Rattle.vrt_markup.specs.Items.{Pair}
 use Rattle.vrt_profile.specs.Values.{Rectangle}
-use Rattle.vrt_writing.specs.Spelled.{Markup, nothing, both, words, empty, written, indent, tag_text, pair_text, end_text, pair, flag_text, escaped, file_markup, Appends, AppendsPairs, FileOpens, scale_markup, part_text, micro_text, rectangle_pairs}
+use Rattle.vrt_writing.specs.Spelled.{Markup, nothing, both, words, empty, markup_text, indent, tag_text, pair_text, end_text, pair, flag_text, escaped, file_markup, scale_markup, part_text, micro_text, rectangle_pairs}
+use Rattle.vrt_writing.specs.Appended.{Appends, AppendsPairs, FileOpens}
 
 pub two : (a b c e f : List ℕ) → b ≡ a ++ e → c ≡ b ++ f → c ≡ a ++ (e ++ f)
 two a b c e f p q = q ∙ ap (λ (x : List ℕ). x ++ f) p ∙ append_assoc a e f
@@ -56,10 +57,10 @@ pub appends_nothing : (a b : List ℕ) (level : ℕ) → b ≡ a → Appends a b
 appends_nothing a b level p = record { is = p ∙ sym (append-nil a) }
 
 pub appends_both : (a b c : List ℕ) (level : ℕ) (m n : Markup) → Appends a b level m → Appends b c level n → Appends a c level (both m n)
-appends_both a b c level m n p q = record { is = two a b c (written level m) (written level n) p.is q.is }
+appends_both a b c level m n p q = record { is = two a b c (markup_text level m) (markup_text level n) p.is q.is }
 
 pub keeps_appends : (a b c : List ℕ) (level : ℕ) (m : Markup) → Appends a b level m → KeepsFront b c → KeepsFront a c
-keeps_appends a b c level m p h = keeps_then a b c (written level m) p.is h
+keeps_appends a b c level m p h = keeps_then a b c (markup_text level m) p.is h
 
 same_zero : (v usual : ℤ) → v ≡ usual → (unsigned_abs (v -ℤ usual) == 0) ≡ true
 same_zero v usual e = grind (arith, nat_tests, ints)

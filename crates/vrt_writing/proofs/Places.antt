@@ -13,7 +13,7 @@ use Rattle.std.proofs.Math.Nat.{mul_assoc, one-le-pow, mul-div_cancel}
 use Rattle.lists_and_answers.specs.Options.{◌>>=◌}
 use Rattle.geotransform.specs.Decimal.{number, number_of}
 use Rattle.vrt_profile.specs.Fields.{whole_text}
-use Rattle.geotransform.specs.Decimal.{Decimal, parts_of, ticks_of, places_of, signed, scaled, half_up, magnitude, magnitude_at, near_at, mantissa}
+use Rattle.geotransform.specs.Decimal.{Decimal, parts_of, ticks_of, places_of, signed, scaled, half_up, magnitude, rounded_magnitude, rounded_near, mantissa}
 use Rattle.geotransform.specs.Print.{unit, rounded_to, with_point, short_of, short_text}
 use Rattle.geotransform.proofs.Numbers.{own}
 use Rattle.geotransform.proofs.Written.{rounded_is}
@@ -82,15 +82,15 @@ magnitude_is q negative =
     let exponent : pos 0 -ℤ pos (length (fraction_of q)) +ℤ pos 16 ≡ pos (16 - length (fraction_of q)) = omega (arith, ints, fraction_short q) in
     ap (scaled (mantissa (parts_are negative q))) exponent
 
-at_places : (q k u : ℕ) (negative : Bool) → k ≤ 16 → magnitude (parts_are negative q) ≡ u * 10 ^ (16 - k) → magnitude_at k (parts_are negative q) ≡ u
+at_places : (q k u : ℕ) (negative : Bool) → k ≤ 16 → magnitude (parts_are negative q) ≡ u * 10 ^ (16 - k) → rounded_magnitude k (parts_are negative q) ≡ u
 at_places q k u negative le e = fewer_places (mantissa (parts_are negative q)) (length (fraction_of q)) k u (fraction_short q) le (sym (magnitude_is q negative) ∙ e)
 
 places_from : (text : List ℕ) (q k u : ℕ) (negative : Bool) → k ≤ 16 → parts_of text ≡ Some (parts_are negative q) → nat_lt (magnitude (parts_are negative q)) (10 ^ 28) ≡ true → magnitude (parts_are negative q) ≡ u * 10 ^ (16 - k) → places_of k text ≡ Some (signed negative u)
 unfolding places_of
 places_from text q k u negative le p few e =
-    let finish : Decimal → Option ℤ = λ d. near_at k d >>= λ n. Some (signed d.negative n) in
+    let finish : Decimal → Option ℤ = λ d. rounded_near k d >>= λ n. Some (signed d.negative n) in
     ap (λ (o : Option Decimal). o >>= finish) p
-    ∙ ap (λ b. cond b (Some (magnitude_at k (parts_are negative q))) None >>= λ n. Some (signed negative n)) few
+    ∙ ap (λ b. cond b (Some (rounded_magnitude k (parts_are negative q))) None >>= λ n. Some (signed negative n)) few
     ∙ ap (λ n. Some (signed negative n)) (at_places q k u negative le e)
 
 -- A number of units of the k-th place that was written in ticks is read again.

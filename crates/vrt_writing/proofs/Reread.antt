@@ -7,7 +7,7 @@ use Rattle.std.proofs.lemmas.List.{take_at, drop_at}
 use Rattle.lists_and_answers.specs.Options.{◌>>=◌}
 use Rattle.lists_and_answers.specs.Answers.{◌>>=◌ as ◌>>=>◌}
 use Rattle.vrt_markup.specs.Items.{plain_len, is_later, has_first, name_at, byte_at, trim_front, close_at, Item, bad, run, close_tag, comment, item_at, tag_item, run_at, option_case, begins, after_comment, is_equal}
-use Rattle.vrt_markup.specs.Forest.{stop, Read, nodes, decoded, decoded_from, text_of, child_of, with_text, nodes_step}
+use Rattle.vrt_markup.specs.Forest.{stop, ForestRead, nodes, decoded, decoded_from, text_of, child_of, with_text, nodes_step}
 use Rattle.vrt_writing.specs.Spelled.{escape, escaped}
 use Rattle.vrt_writing.specs.Reread.{IsTagName, words_forest}
 use Rattle.vrt_markup.specs.declared.fault.VrtFault.TheVariants.{BadText}
@@ -141,7 +141,7 @@ closed_again total depth name r is =
     ∙ ap (nodes_step (nodes total) total depth name (60 ∷ 47 ∷ name ++ 62 ∷ r)) (end_again name r is)
     ∙ ap (λ b. cond b (Ok (stop, r)) (Err (BadText (total - length (60 ∷ 47 ∷ name ++ 62 ∷ r))))) (equal_self name)
 
-abbrev with_run : List ℕ → Read → Read
+abbrev with_run : List ℕ → ForestRead → ForestRead
 with_run raw x = x >>=> with_text raw
 
 pub words_again : (total depth : ℕ) (name t r : List ℕ) → IsTagName name → nodes total depth name (escaped t ++ (60 ∷ 47 ∷ name ++ 62 ∷ r)) ≡ Ok (words_forest t, r)
@@ -149,7 +149,7 @@ words_again total depth name [] r is = closed_again total depth name r is
 words_again total depth name (c ∷ cs) r is =
     next total depth name (escaped (c ∷ cs) ++ (60 ∷ 47 ∷ name ++ 62 ∷ r))
     ∙ ap (nodes_step (nodes total) total depth name (escaped (c ∷ cs) ++ (60 ∷ 47 ∷ name ++ 62 ∷ r))) (text_again c cs (47 ∷ name ++ 62 ∷ r))
-    ∙ ap (λ (x : Read). with_run (escaped (c ∷ cs)) x) (closed_again total depth name r is)
+    ∙ ap (λ (x : ForestRead). with_run (escaped (c ∷ cs)) x) (closed_again total depth name r is)
 
 pub words_text : (t : List ℕ) → text_of (words_forest t) ≡ t
 words_text [] = refl

@@ -9,7 +9,7 @@ use Rattle.lists_and_answers.specs.Answers.{◌>>=◌}
 use Rattle.geotransform.specs.Decimal.{places_of, whole_of}
 use Rattle.vrt_markup.specs.Items.{Pair, attribute}
 use Rattle.vrt_markup.specs.Forest.{Forest, stop, text_of, child_of}
-use Rattle.vrt_markup.specs.Kept.{stepped}
+use Rattle.vrt_markup.specs.Fronts.{stepped}
 use Rattle.vrt_profile.specs.Numbers.{within_limit, some_size, offset_in, size_in, band_number_by, band_number, no_band_fault, scale_by}
 use Rattle.vrt_profile.specs.Values.{million, trillion, Rectangle, IsOffset, IsRectangle, IsLut, SourceValue, IsSource, IsSimple}
 use Rattle.vrt_writing.specs.Spelled.{Markup, nothing, both, words, pair, flag_text, micro_text, part_text, lut_text, file_markup, source_band_markup, rectangle_pairs, rectangle_markup, nodata_markup, scale_markup, lut_markup, place_markup, scaling_markup}

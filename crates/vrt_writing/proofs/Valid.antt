@@ -12,7 +12,7 @@ use Rattle.geotransform.specs.declared.types.PixelType.{PixelType}
 use Rattle.geotransform.specs.declared.types.PixelType.TheVariants.{Byte, Int8, UInt16, Int16, UInt32, Int32, UInt64, Int64}
 use Rattle.vrt_markup.specs.Items.{Pair}
 use Rattle.vrt_profile.specs.Values.{trillion, IsOffset, Rectangle, IsRectangle, IsLut, SourceValue, IsSource, BandValue, IsBand, DocumentValue, IsDocument, IsDecimal}
-use Rattle.vrt_writing.specs.Spelled.{Markup, nothing, both, words, empty, group, written, indent, tag_text, pair_text, end_text, escape, escaped, micro_text, part_text, lut_text, geo_text, flag_text, file_markup, source_band_markup, rectangle_markup, nodata_markup, lut_markup, source_tag, source_markup, sources_markup, band_markup, bands_markup, srs_markup, geo_markup, dataset_markup, spelled}
+use Rattle.vrt_writing.specs.Spelled.{Markup, nothing, both, words, empty, group, markup_text, indent, tag_text, pair_text, end_text, escape, escaped, micro_text, part_text, lut_text, geo_text, flag_text, file_markup, source_band_markup, rectangle_markup, nodata_markup, lut_markup, source_tag, source_markup, sources_markup, band_markup, bands_markup, srs_markup, geo_markup, dataset_markup, spelled}
 use Rattle.vrt_profile.specs.declared.rectangle.LutPair.{LutPair}
 use Rattle.vrt_writing.proofs.Bands.{all_head, all_tail, in_range}
 use Rattle.vrt_writing.proofs.Relisted.{lut_marks, geo_marks}
@@ -116,15 +116,15 @@ tag_utf8 level name ps h k = join (indent level) _ (spaces_utf8 (2 * level)) (co
 end_utf8 : (name : List ℕ) → AreAscii name → IsUtf8 (end_text name)
 end_utf8 name h = join (codes "</") _ (ascii_utf8 (codes "</") refl) (join name (codes ">\n") (ascii_utf8 name h) (ascii_utf8 (codes ">\n") refl))
 
-pub written_utf8 : (m : Markup) (level : ℕ) → IsValid m → IsUtf8 (written level m)
+pub written_utf8 : (m : Markup) (level : ℕ) → IsValid m → IsUtf8 (markup_text level m)
 written_utf8 nothing level h = IsUtf8-nil
-written_utf8 (both a b) level h = join (written level a) (written level b) (written_utf8 a level h.0) (written_utf8 b level h.1)
+written_utf8 (both a b) level h = join (markup_text level a) (markup_text level b) (written_utf8 a level h.0) (written_utf8 b level h.1)
 written_utf8 (words name ps t) level h = join (tag_text level name ps) _ (tag_utf8 level name ps h.0 h.1) (cons_utf8 62 _ (omega arith) (join t (end_text name) h.2 (end_utf8 name h.0)))
 written_utf8 (empty name ps) level h = join (tag_text level name ps) (codes "/>\n") (tag_utf8 level name ps h.0 h.1) (ascii_utf8 (codes "/>\n") refl)
 written_utf8 (group name ps m) level h =
     join (tag_text level name ps) _ (tag_utf8 level name ps h.0 h.1)
     (join (codes ">\n") _ (ascii_utf8 (codes ">\n") refl)
-    (join (written (suc level) m) _ (written_utf8 m (suc level) h.2)
+    (join (markup_text (suc level) m) _ (written_utf8 m (suc level) h.2)
     (join (indent level) (end_text name) (spaces_utf8 (2 * level)) (end_utf8 name h.0))))
 
 -- each part of a document

@@ -8,7 +8,7 @@ use Rattle.std.proofs.lemmas.Bool.Decides.{nat_tests}
 use Rattle.vrt_markup.specs.Items.{is_later, has_first, trim_front, name_at, byte_at, spaces_at, quote_at, plain_len, ends_at, entity_at, option_case, value_at, pair_at, Pair, pairs_by, pairs, with_pair, Tag, tag_end, tag_front, tag_at, is_distinct, close_at, strip, begins, is_equal, after_comment, run_at, item_at, Item, bad, comment, run, open_tag, close_tag}
 use Rattle.lists_and_answers.specs.Answers.{◌>>=◌}
 use Rattle.lists_and_answers.specs.Texts.{is_white}
-use Rattle.vrt_markup.specs.Forest.{Forest, stop, text, element, Read, with_text, with_element, inner_by, nodes_step, nodes_by, plain_at, decoded_from, text_of}
+use Rattle.vrt_markup.specs.Forest.{Forest, stop, text, element, ForestRead, with_text, with_element, inner_by, nodes_step, nodes_by, plain_at, decoded_from, text_of}
 use Rattle.vrt_markup.specs.declared.fault.VrtFault.TheVariants.{BadText, Limit}
 use Rattle.vrt_markup.proofs.Shorter.{guard_some, bind_some}
 use Rattle.vrt_writing.proofs.Bytes.{tail_utf8, IsEnd, end_boundary, cons_utf8, is_high, high_boundary}
@@ -242,30 +242,30 @@ AllWhole stop = Unit {0}
 AllWhole (text raw more) = IsUtf8 raw × AllWhole more
 AllWhole (element place tag inside more) = AllWhole inside × AllWhole more
 
-abbrev pub ReadsWhole : Read → Type 0
+abbrev pub ReadsWhole : ForestRead → Type 0
 ReadsWhole (Ok x) = AllWhole x.0 × IsUtf8 x.1
 ReadsWhole (Err e) = Unit {0}
 
-run_read : (raw : List ℕ) (read : Read) → IsUtf8 raw → ReadsWhole read → ReadsWhole (read >>= with_text raw)
+run_read : (raw : List ℕ) (read : ForestRead) → IsUtf8 raw → ReadsWhole read → ReadsWhole (read >>= with_text raw)
 run_read raw (Ok x) u h = ((u, h.0), h.1)
 run_read raw (Err e) u h = tt
 
-element_read : (place : ℕ) (tag : Tag) (inside : Forest) (read : Read) → AllWhole inside → ReadsWhole read → ReadsWhole (read >>= with_element place tag inside)
+element_read : (place : ℕ) (tag : Tag) (inside : Forest) (read : ForestRead) → AllWhole inside → ReadsWhole read → ReadsWhole (read >>= with_element place tag inside)
 element_read place tag inside (Ok x) u h = ((u, h.0), h.1)
 element_read place tag inside (Err e) u h = tt
 
-abbrev pub Keeps : (ℕ → List ℕ → List ℕ → Read) → Type 0
+abbrev pub Keeps : (ℕ → List ℕ → List ℕ → ForestRead) → Type 0
 Keeps more = (depth : ℕ) (name bytes : List ℕ) → IsUtf8 bytes → ReadsWhole (more depth name bytes)
 
-pub inner_read : (more : ℕ → List ℕ → List ℕ → Read) (depth : ℕ) (tag : Tag) (rest : List ℕ) (b : Bool) → Keeps more → IsUtf8 rest → ReadsWhole (cond b (Ok (stop, rest)) (more (suc depth) tag.name rest))
+pub inner_read : (more : ℕ → List ℕ → List ℕ → ForestRead) (depth : ℕ) (tag : Tag) (rest : List ℕ) (b : Bool) → Keeps more → IsUtf8 rest → ReadsWhole (cond b (Ok (stop, rest)) (more (suc depth) tag.name rest))
 inner_read more depth tag rest true keeps h = (tt, h)
 inner_read more depth tag rest false keeps h = keeps (suc depth) tag.name rest h
 
-behind_read : (more : ℕ → List ℕ → List ℕ → Read) (place depth : ℕ) (name : List ℕ) (tag : Tag) (read : Read) → Keeps more → ReadsWhole read → ReadsWhole (read >>= λ x. more depth name x.1 >>= with_element place tag x.0)
+behind_read : (more : ℕ → List ℕ → List ℕ → ForestRead) (place depth : ℕ) (name : List ℕ) (tag : Tag) (read : ForestRead) → Keeps more → ReadsWhole read → ReadsWhole (read >>= λ x. more depth name x.1 >>= with_element place tag x.0)
 behind_read more place depth name tag (Ok x) keeps h = element_read place tag x.0 (more depth name x.1) h.0 (keeps depth name x.1 h.1)
 behind_read more place depth name tag (Err e) keeps h = tt
 
-deep_read : (b : Bool) (read : Read) → ReadsWhole read → ReadsWhole (cond b (Err Limit) read)
+deep_read : (b : Bool) (read : ForestRead) → ReadsWhole read → ReadsWhole (cond b (Err Limit) read)
 deep_read true read h = tt
 deep_read false read h = h
 
@@ -273,7 +273,7 @@ last_read : (b : Bool) (place : ℕ) (rest : List ℕ) → IsUtf8 rest → Reads
 last_read true place rest h = (tt, h)
 last_read false place rest h = tt
 
-step_read : (more : ℕ → List ℕ → List ℕ → Read) (total depth : ℕ) (name bytes : List ℕ) (item : Item) → Keeps more → IsUtf8Behind item → ReadsWhole (nodes_step more total depth name bytes item)
+step_read : (more : ℕ → List ℕ → List ℕ → ForestRead) (total depth : ℕ) (name bytes : List ℕ) (item : Item) → Keeps more → IsUtf8Behind item → ReadsWhole (nodes_step more total depth name bytes item)
 step_read more total depth name bytes bad keeps h = tt
 step_read more total depth name bytes (comment rest) keeps h = keeps depth name rest h
 step_read more total depth name bytes (run raw rest) keeps h = run_read raw (more depth name rest) h.0 (keeps depth name rest h.1)

@@ -2,3 +2,5 @@
 pub mod Texts
 pub mod Spelled
 pub mod Reread
+-- What private clauses, views and proofs speak of.
+pub mod Appended

@@ -1,6 +1,6 @@
 -- The one text that is written of a document.
-use Rattle.std.specs.Prelude.{◌≡◌, ℕ, ℤ, pos, suc, ◌*◌, ◌*ℤ◌, ◌-ℤ◌, ◌==◌, Bool, List, [], ◌∷◌, ◌++◌, flat_map}
-use Rattle.std.specs.Prelude.{replicate, codes, Option, Some, None, if◌then◌else◌, unsigned_abs}
+use Rattle.std.specs.Prelude.{ℕ, ℤ, pos, suc, ◌*◌, ◌*ℤ◌, ◌-ℤ◌, ◌==◌, Bool, List, [], ◌∷◌, ◌++◌, flat_map, replicate}
+use Rattle.std.specs.Prelude.{codes, Option, Some, None, if◌then◌else◌, unsigned_abs}
 use Rattle.std.specs.Fmt.{decimal, signed_decimal}
 use Rattle.geotransform.specs.Print.{short_text}
 use Rattle.geotransform.specs.Geo.{Transform}
@@ -50,13 +50,13 @@ tag_text level name pairs = indent level ++ (less_than ∷ name ++ flat_map pair
 abbrev pub end_text : List ℕ → List ℕ
 end_text name = codes "</" ++ (name ++ codes ">\n")
 
-abbrev pub written : ℕ → Markup → List ℕ
-written level nothing = []
-written level (both a b) = written level a ++ written level b
-written level (words name pairs text) = tag_text level name pairs ++ (greater_than ∷ text ++ end_text name)
-written level (empty name pairs) = tag_text level name pairs ++ codes "/>\n"
-written level (group name pairs inside) = tag_text level name pairs ++
-    (codes ">\n" ++ (written (suc level) inside ++ (indent level ++ end_text name)))
+abbrev pub markup_text : ℕ → Markup → List ℕ
+markup_text level nothing = []
+markup_text level (both a b) = markup_text level a ++ markup_text level b
+markup_text level (words name pairs text) = tag_text level name pairs ++ (greater_than ∷ text ++ end_text name)
+markup_text level (empty name pairs) = tag_text level name pairs ++ codes "/>\n"
+markup_text level (group name pairs inside) = tag_text level name pairs ++
+    (codes ">\n" ++ (markup_text (suc level) inside ++ (indent level ++ end_text name)))
 
 -- Numbers have no trailing zeros. A millionth is 180,000,000,000 ticks, a part of 10^12 is 180,000.
 unfoldable pub micro_text : ℤ → List ℕ
@@ -169,32 +169,4 @@ dataset_markup d = group (codes "VRTDataset") (size_pairs d.size) (parts_markup 
 
 -- the text of a document
 unfoldable pub spelled : DocumentValue → List ℕ
-spelled d = written 0 (dataset_markup d)
-
--- the new bytes are the old ones and this markup
-pub record Appends (old new : List ℕ) (level : ℕ) (markup : Markup) : Type 0 where
-  pub is : new ≡ old ++ written level markup
-
--- the same of attributes
-pub record AppendsPairs (old new : List ℕ) (pairs : List Pair) : Type 0 where
-  pub is : new ≡ old ++ flat_map pair_text pairs
-
--- the same of what stands before a file's name
-pub record FileOpens (old new : List ℕ) (relative : Bool) : Type 0 where
-  pub is : new ≡ old ++ (tag_text 3 (codes "SourceFilename") (pair (codes "relativeToVRT") (flag_text relative) ∷ []) ++
-      greater_than ∷ [])
-
--- the same of a start line
-pub record AppendsTag (old new : List ℕ) (level : ℕ) (name : List ℕ) (pairs : List Pair) : Type 0 where
-  pub is : new ≡ old ++ (tag_text level name pairs ++ codes ">\n")
-
--- the text of one source and of one band, where all are written one after another
-unfoldable pub source_text : SourceValue → List ℕ
-source_text s = written 2 (source_markup s)
-
-unfoldable pub band_text : ℕ → BandValue → List ℕ
-band_text number b = written 1 (band_markup number b)
-
-abbrev pub bands_text : ℕ → List BandValue → List ℕ
-bands_text number [] = []
-bands_text number (b ∷ bs) = band_text number b ++ bands_text (suc number) bs
+spelled d = markup_text 0 (dataset_markup d)

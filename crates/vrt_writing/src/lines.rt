@@ -4,9 +4,10 @@ ghost use Rattle.std.specs.Prelude.{OnErr, unsigned_abs};
 ghost use Rattle.std.specs.Fmt.{decimal, signed_decimal};
 ghost use Rattle.lists_and_answers.specs.Growth.{KeepsFront};
 ghost use Rattle.vrt_profile.specs.Values.{scale_limit};
-ghost use Rattle.vrt_writing.specs.Spelled.{Appends, AppendsPairs, FileOpens, words, indent, escaped};
-ghost use Rattle.vrt_writing.specs.Spelled.{micro_text, part_text, pair, flag_text, file_markup};
-ghost use Rattle.vrt_writing.specs.Spelled.{rectangle_pairs, rectangle_markup, nodata_markup, scale_markup};
+ghost use Rattle.vrt_writing.specs.Spelled.{words, indent, escaped, micro_text, part_text, pair, flag_text};
+ghost use Rattle.vrt_writing.specs.Spelled.{file_markup, rectangle_pairs, rectangle_markup, nodata_markup};
+ghost use Rattle.vrt_writing.specs.Spelled.{scale_markup};
+ghost use Rattle.vrt_writing.specs.Appended.{Appends, AppendsPairs, FileOpens};
 
 use crate::writing::{
     push_end, push_escaped, push_micro, push_number, push_part, push_signed, push_start,

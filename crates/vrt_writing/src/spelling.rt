@@ -4,11 +4,11 @@ ghost use Rattle.std.specs.Prelude.{OnOk, OnErr, length, flat_map, option_map};
 ghost use Rattle.std.specs.List.{All};
 ghost use Rattle.lists_and_answers.specs.Growth.{KeepsFront};
 ghost use Rattle.vrt_profile.specs.Values.{IsPair};
-ghost use Rattle.vrt_writing.specs.Spelled.{Appends, AppendsPairs, AppendsTag, joined_text, lut_pair_text};
-ghost use Rattle.vrt_writing.specs.Spelled.{next_pair_text, source_text, band_text, lut_text, lut_markup, place_markup};
-ghost use Rattle.vrt_writing.specs.Spelled.{scaling_markup, source_tag, sources_markup, band_pairs};
-ghost use Rattle.vrt_writing.specs.Spelled.{bands_markup, srs_markup, geo_text, geo_markup, size_pairs};
-ghost use Rattle.vrt_writing.specs.Spelled.{parts_markup, spelled};
+ghost use Rattle.vrt_writing.specs.Spelled.{joined_text, lut_pair_text, next_pair_text, lut_text, lut_markup};
+ghost use Rattle.vrt_writing.specs.Spelled.{place_markup, scaling_markup, source_tag, sources_markup, band_pairs};
+ghost use Rattle.vrt_writing.specs.Spelled.{bands_markup, srs_markup, geo_text, geo_markup, size_pairs, parts_markup};
+ghost use Rattle.vrt_writing.specs.Spelled.{spelled};
+ghost use Rattle.vrt_writing.specs.Appended.{Appends, AppendsPairs, AppendsTag, source_text, band_text};
 ghost use Rattle.geotransform.specs.Limits.{most_bands};
 
 use crate::lines::{
@@ -141,7 +141,7 @@ fn push_bare_tag(level: usize, name: &[u8], out: &mut Vec<u8>) -> Result<(), All
     Ok(())
 }
 
-#[tactic(auto, unfolding(crate::specs::Spelled::source_text), using(crate::proofs::Listed::source_made, crate::proofs::Listed::keeps_tag, crate::proofs::Listed::keeps_tag_then, crate::proofs::Listed::keeps_tag_two))]
+#[tactic(auto, unfolding(crate::specs::Appended::source_text), using(crate::proofs::Listed::source_made, crate::proofs::Listed::keeps_tag, crate::proofs::Listed::keeps_tag_then, crate::proofs::Listed::keeps_tag_two))]
 fn push_source(source: &Source, out: &mut Vec<u8>) -> Result<(), AllocError>
     ensures ok { OnOk result (out.new.items ≡ out.old.items ++ source_text source.now) }
     ensures err { OnErr result (KeepsFront out.old.items out.new.items) }

@@ -38,7 +38,7 @@ use Rattle.translate_plan.specs.Fits as fits
 use Rattle.translate_plan.specs.Plan.{Planned, BandsHold, IsPlan}
 use Rattle.translate_plan.proofs.Written.{tile_is}
 use Rattle.write_back.specs.declared.forms.Writer.TheVariants as writers
-use Rattle.write_back.specs.Columns.{Cell, cell_of}
+use Rattle.write_back.specs.Columns.{Cell, cell_with_front}
 use Rattle.write_back.specs.Files.{files_of, cell_bytes, column_at, tile_bytes}
 use Rattle.write_back.specs.Reading.{HasFiles, kind_read, AreSamplesOf, IsDecoded, IsReadable}
 use Rattle.write_back.specs.View.{Blocks}
@@ -93,9 +93,9 @@ cell_written : (level : ℕ) (size : Size) (geo : Option Transform) (h : dted.He
 cell_written level size None h e = absurd cc
 cell_written level size (Some g) h e = cell_rules level size g h e
 
-pub cell_decoded : (m : Files) (v : Bool) (name : List ℕ) (p : Planned) (samples : ℕ → ℕ → ℕ → ℤ) (level : ℕ) (h : dted.Head) → IsPlan p → p.driver ≡ Dted level → IsReadable p name → fits.cell_in level p.size p.geo ≡ Some h → AreSamplesOf (Blocks (writers.Dted (cell_of h (head_text h)))) samples → HasFiles m (files_of (Blocks (writers.Dted (cell_of h (head_text h)))) name samples) → IsDecoded m v name p samples
+pub cell_decoded : (m : Files) (v : Bool) (name : List ℕ) (p : Planned) (samples : ℕ → ℕ → ℕ → ℤ) (level : ℕ) (h : dted.Head) → IsPlan p → p.driver ≡ Dted level → IsReadable p name → fits.cell_in level p.size p.geo ≡ Some h → AreSamplesOf (Blocks (writers.Dted (cell_with_front h (head_text h)))) samples → HasFiles m (files_of (Blocks (writers.Dted (cell_with_front h (head_text h)))) name samples) → IsDecoded m v name p samples
 cell_decoded m v name p samples level h plan driver is fit held has =
-    let c : Cell = cell_of h (head_text h) in
+    let c : Cell = cell_with_front h (head_text h) in
     let bytes : List ℕ = cell_bytes c samples in
     let rules = cell_written level p.size p.geo h fit in
     let size = cell_size level p.size p.geo h fit in

@@ -20,9 +20,11 @@ use Rattle.band_blocks.specs.declared.key.BlockKey.{BlockKey}
 use Rattle.write_back.specs.declared.forms.Writer.{Writer}
 use Rattle.write_back.specs.declared.forms.Writer.TheVariants.{Raw, Hgt}
 use Rattle.band_blocks.specs.Blocks.{BlockView}
-use Rattle.write_back.specs.Forms.{IsSpot, holds, needed_of, AreHeld, IsFormed}
-use Rattle.write_back.specs.Overlay.{line_key, held_in, IsBlockWritten, IsLine}
-use Rattle.write_back.specs.Pieces.{spot_at, spots_from, spots_of, AreBytes, IsLineSpot, IsRunWritten}
+use Rattle.write_back.specs.Forms.{holds, needed_of, AreHeld, IsFormed}
+use Rattle.write_back.specs.Spots.{IsSpot, spots_from, IsLineSpot, IsRunWritten}
+use Rattle.write_back.specs.Overlay.{line_key, held_in, IsLine}
+use Rattle.write_back.specs.Stores.{IsBlockWritten}
+use Rattle.write_back.specs.Pieces.{spot_at, spots_of, AreBytes}
 use Rattle.write_back.proofs.Lines.{line_is}
 use Rattle.write_back.proofs.Runs.{put_len, put_small, put_stands, put_below, put_past}
 

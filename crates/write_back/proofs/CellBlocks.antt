@@ -10,7 +10,7 @@ use Rattle.outside.specs.Outside.{put_at, Written}
 use Rattle.dted_records.specs.Head.{Head, part}
 use Rattle.dted_records.specs.Places.{record_len, record_of}
 use Rattle.dted_records.specs.Places as places
-use Rattle.dted_records.specs.Records.{elevation, elevation_in, two_at, point_of, dted_at, column_of}
+use Rattle.dted_records.specs.Records.{elevation, elevation_in, two_at, point_place_of, dted_at, column_of}
 use Rattle.lists_and_answers.specs.Places as records
 use Rattle.dted_records.proofs.Columns.{column_stands}
 use Rattle.band_blocks.specs.declared.key.BlockKey.{BlockKey}
@@ -20,8 +20,10 @@ use Rattle.write_back.specs.declared.forms.Writer.TheVariants.{Dted}
 use Rattle.dted_records.specs.Written.{record_bytes, summed_bytes}
 use Rattle.dted_records.proofs.Encoded.{record_again}
 use Rattle.write_back.specs.Columns.{Cell, is_elevation, IsBegun, IsCell}
-use Rattle.write_back.specs.Forms.{IsSpot, needed_of}
-use Rattle.write_back.specs.Overlay.{line_key, IsBlockWritten, IsLine}
+use Rattle.write_back.specs.Forms.{needed_of}
+use Rattle.write_back.specs.Spots.{IsSpot}
+use Rattle.write_back.specs.Overlay.{line_key, IsLine}
+use Rattle.write_back.specs.Stores.{IsBlockWritten}
 use Rattle.write_back.specs.Pieces.{AreBytes}
 use Rattle.write_back.proofs.Blocks.{other_block, part_apart, range_same}
 use Rattle.write_back.proofs.RecordBytes.{elevations_of, record_size}
@@ -70,7 +72,7 @@ module _ (c : Cell) (key : BlockKey) (samples : List ℤ) (b : List ℕ) (file :
       part_apart n p (record_of c.head key.block) (record_bytes key.block samples) b within (omega arith) (beside x n p less other low high)
 
   other_point : (x y : ℕ) → x < c.head.lines → y < c.head.points → (x ≡ key.block → ⊥) → dted_at c.head (put_at (record_of c.head key.block) (record_bytes key.block samples) b) x y ≡ dted_at c.head b x y
-  other_point x y less row other = ap (λ (l : List ℕ). elevation (big_number 2 l)) (other_part x 2 (record_of c.head x + point_of c.head y) less other (omega arith) (omega arith))
+  other_point x y less row other = ap (λ (l : List ℕ). elevation (big_number 2 l)) (other_part x 2 (record_of c.head x + point_place_of c.head y) less other (omega arith) (omega arith))
 
   other_first : (x : ℕ) → x < c.head.lines → (x ≡ key.block → ⊥) → get_or (put_at (record_of c.head key.block) (record_bytes key.block samples) b) (record_of c.head x) 0 ≡ get_or b (record_of c.head x) 0
   other_first x less other = ⊎_elim

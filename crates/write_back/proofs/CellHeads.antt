@@ -6,7 +6,7 @@ use Rattle.std.proofs.lemmas.Bool.Decides.{nat_tests}
 use Rattle.geotransform.specs.Geo.{Transform}
 use Rattle.geotransform.specs.declared.types.Size.{Size}
 use Rattle.dted_records.specs.Head.{Head, IsHead, IsCount}
-use Rattle.dted_records.specs.Fit.{IsPlain, IsLevelled, cell_head, cell_of, edge_of, factor_at, lines_of, points_of, step_of}
+use Rattle.dted_records.specs.Fit.{IsPlain, IsLevelled, cell_head, cell_of, edge_of, factor_at, cell_lines, points_of, step_of}
 use Rattle.dted_records.proofs.Fits.{cell_is}
 
 factor_within : (e f : ℕ) → factor_at e ≡ Some f → (0 < f) × (f ≤ 6)

@@ -9,7 +9,8 @@ use Rattle.esri_hdr.specs.declared.header_parts.Layout.TheVariants.{Bil, Bip, Bs
 use Rattle.esri_hdr.specs.Head.{Head, IsHead, sample_len}
 use Rattle.interleaved_raw.specs.Raw.{position_by, position_of, sample_bytes, IsPlace}
 use Rattle.write_back.specs.declared.forms.Writer.TheVariants.{Raw}
-use Rattle.write_back.specs.Files.{HasSamples, IsTight, IsTightBy, band_by, column_by, line_by, raw_bytes}
+use Rattle.write_back.specs.Files.{IsTight, IsTightBy, sample_band_by, column_by, line_by, raw_bytes}
+use Rattle.write_back.specs.Drafts.{HasSamples}
 use Rattle.write_back.proofs.Spelled.{spelled}
 use Rattle.write_back.proofs.Woven.{seen_sample}
 use Rattle.interleaved_raw.proofs.Order.{ends_within}
@@ -31,7 +32,7 @@ chunks s n b f len each =
     ap (λ m. drop m b) (sym none) ∙ chunks_from s 0 n b f (len ∙ ap (λ m. m * s) (sym whole)) (λ i less. each i (omega arith))
 
 -- the place of the sample of a number
-place_by : (l : Layout) (h : Head) (i : ℕ) → h.skip ≡ 0 → IsTightBy l h → position_by l h (band_by l h i) (column_by l h i) (line_by l h i) ≡ i * sample_len h.kind
+place_by : (l : Layout) (h : Head) (i : ℕ) → h.skip ≡ 0 → IsTightBy l h → position_by l h (sample_band_by l h i) (column_by l h i) (line_by l h i) ≡ i * sample_len h.kind
 place_by Bil h i skip rows =
     let a = div-add-mod' i h.size.w in
     let b = div-add-mod' (i / h.size.w) h.bands in
@@ -58,7 +59,7 @@ place_by Bsq h i skip rows =
     put skip gap k y x h w s p q = ap (λ n. n + k * (h * w * s + gap) + (y * w + x) * s) p ∙ ap (λ n. 0 + k * (h * w * s + n) + (y * w + x) * s) q ∙ omega arith
 
 -- it is a place of the raster
-is_place : (l : Layout) (h : Head) (i : ℕ) → IsHead h → i < h.bands * h.size.h * h.size.w → IsPlace h (band_by l h i) (column_by l h i) (line_by l h i)
+is_place : (l : Layout) (h : Head) (i : ℕ) → IsHead h → i < h.bands * h.size.h * h.size.w → IsPlace h (sample_band_by l h i) (column_by l h i) (line_by l h i)
 is_place Bil h i is less = let w = is.width.0 in let t = is.height.0 in let b = is.bands.0 in record {
   band = mod_below (i / h.size.w) h.bands b;
   column = mod_below i h.size.w w;
@@ -138,14 +139,14 @@ len_by Bsq h is skip rows = put h.skip h.gap h.bands h.size.h h.size.w (sample_l
 pub data_is : (h : Head) (samples : ℕ → ℕ → ℕ → ℤ) (met : ℕ → ℕ → Type 0) (b : List ℕ) → IsHead h → IsTight h → HasSamples (Raw h) samples met b → b ≡ raw_bytes h samples
 data_is h samples met b is tight has =
     let n : ℕ = h.bands * h.size.h * h.size.w in
-    chunks (sample_len h.kind) (h.bands * h.size.h * h.size.w) b (λ i. sample_bytes h (samples (band_by h.layout h i) (column_by h.layout h i) (line_by h.layout h i)))
+    chunks (sample_len h.kind) (h.bands * h.size.h * h.size.w) b (λ i. sample_bytes h (samples (sample_band_by h.layout h i) (column_by h.layout h i) (line_by h.layout h i)))
     (has.len ∙ len_by h.layout h is tight.skip tight.rows)
     (λ i less. (
     let place = is_place h.layout h i is less in
     let at = place_by h.layout h i tight.skip tight.rows in
-    let last = ends_within h (band_by h.layout h i) (column_by h.layout h i) (line_by h.layout h i) place in
+    let last = ends_within h (sample_band_by h.layout h i) (column_by h.layout h i) (line_by h.layout h i) place in
     let len = has.len in
     ap (λ m. take (sample_len h.kind) (drop m b)) (sym at)
-    ∙ spelled h b (position_of h (band_by h.layout h i) (column_by h.layout h i) (line_by h.layout h i)) has.formed (omega arith)
-    ∙ ap (sample_bytes h) (sym (seen_sample h b (band_by h.layout h i) (column_by h.layout h i) (line_by h.layout h i)) ∙ has.each (band_by h.layout h i) (column_by h.layout h i) (line_by h.layout h i) (record { band = place.band; column = place.column; line = place.line }))
+    ∙ spelled h b (position_of h (sample_band_by h.layout h i) (column_by h.layout h i) (line_by h.layout h i)) has.formed (omega arith)
+    ∙ ap (sample_bytes h) (sym (seen_sample h b (sample_band_by h.layout h i) (column_by h.layout h i) (line_by h.layout h i)) ∙ has.each (sample_band_by h.layout h i) (column_by h.layout h i) (line_by h.layout h i) (record { band = place.band; column = place.column; line = place.line }))
     ))

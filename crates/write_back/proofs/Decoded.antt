@@ -17,7 +17,7 @@ use Rattle.esri_hdr.specs.Head.{Head, IsHead, sample_len}
 use Rattle.interleaved_raw.specs.Raw.{position_by, position_of, raw_at, sample_at, sample_bytes, stride_of, IsPlace}
 use Rattle.interleaved_raw.proofs.Writes.{read_again, sample_bytes_len}
 use Rattle.hgt_tiles.specs.Samples as tiles
-use Rattle.hgt_tiles.specs.Samples.{hgt_at, item_of, row_bytes}
+use Rattle.hgt_tiles.specs.Samples.{hgt_at, item_at, row_bytes}
 use Rattle.hgt_tiles.proofs.Rows as tile_rows
 use Rattle.dted_records.specs.Head as cells
 use Rattle.dted_records.specs.Head.{part}
@@ -28,7 +28,7 @@ use Rattle.dted_records.specs.Written.{IsElevation, elevation_bytes, points_byte
 use Rattle.dted_records.proofs.Columns.{column_stands}
 use Rattle.dted_records.proofs.Encoded.{record_again}
 use Rattle.lists_and_answers.specs.Places.{StandsAt}
-use Rattle.write_back.specs.Files.{IsTight, IsTightBy, band_by, column_by, line_by, raw_bytes, line_at, tile_bytes}
+use Rattle.write_back.specs.Files.{IsTight, IsTightBy, sample_band_by, column_by, line_by, raw_bytes, line_at, tile_bytes}
 
 -- one of the pieces of a list
 pub piece : (s : ℕ) (f : ℕ → List ℕ) (k n i : ℕ) → ((j : ℕ) → length (f j) ≡ s) → i < n → take s (drop (i * s) (flat_map f (range_with_len k n))) ≡ f (k + i)
@@ -53,7 +53,7 @@ number_by Bip h k x y = (y * h.size.w + x) * h.bands + k
 number_by Bsq h k x y = (k * h.size.h + y) * h.size.w + x
 
 record IsNumbered (l : Layout) (h : Head) (k x y : ℕ) : Type 0 where
-  pub band : band_by l h (number_by l h k x y) ≡ k
+  pub band : sample_band_by l h (number_by l h k x y) ≡ k
   pub column : column_by l h (number_by l h k x y) ≡ x
   pub line : line_by l h (number_by l h k x y) ≡ y
   pub few : number_by l h k x y < h.bands * h.size.h * h.size.w
@@ -103,14 +103,14 @@ placed_by Bsq h k x y skip rows = put h.skip h.gap k y x h.size.h h.size.w (samp
     put skip gap k y x h w s p q = ap (λ n. n + k * (h * w * s + gap) + (y * w + x) * s) p ∙ ap (λ n. 0 + k * (h * w * s + n) + (y * w + x) * s) q ∙ omega arith
 
 abbrev sample_of : (h : Head) (samples : ℕ → ℕ → ℕ → ℤ) (i : ℕ) → List ℕ
-sample_of h samples i = sample_bytes h (samples (band_by h.layout h i) (column_by h.layout h i) (line_by h.layout h i))
+sample_of h samples i = sample_bytes h (samples (sample_band_by h.layout h i) (column_by h.layout h i) (line_by h.layout h i))
 
 -- the bytes of raw data hold its samples
 pub raw_sample : (h : Head) (samples : ℕ → ℕ → ℕ → ℤ) (k x y : ℕ) → IsTight h → IsPlace h k x y → is_in h.kind (samples k x y) ≡ true → raw_at h (raw_bytes h samples) k x y ≡ samples k x y
 raw_sample h samples k x y tight place within =
     let i = number_by h.layout h k x y in
     let is = numbered h.layout h k x y place in
-    let each : (j : ℕ) → length (sample_of h samples j) ≡ sample_len h.kind = λ j. sample_bytes_len h (samples (band_by h.layout h j) (column_by h.layout h j) (line_by h.layout h j)) in
+    let each : (j : ℕ) → length (sample_of h samples j) ≡ sample_len h.kind = λ j. sample_bytes_len h (samples (sample_band_by h.layout h j) (column_by h.layout h j) (line_by h.layout h j)) in
     ap (λ m. sample_at h (drop m (drop (position_of h k x y) (raw_bytes h samples)))) (let e : 0 ≡ 0 * stride_of h = omega arith in e)
     ∙ read_again h (drop (position_of h k x y) (raw_bytes h samples)) 0 (samples k x y) within
     (ap (λ m. take (sample_len h.kind) (drop m (drop (position_of h k x y) (raw_bytes h samples)))) (let e : 0 * stride_of h ≡ 0 = omega arith in e)
@@ -122,7 +122,7 @@ raw_sample h samples k x y tight place within =
     ∙ ap (λ c. sample_bytes h (samples k x c)) is.line)
 
 pub raw_len : (h : Head) (samples : ℕ → ℕ → ℕ → ℤ) → length (raw_bytes h samples) ≡ h.bands * h.size.h * h.size.w * sample_len h.kind
-raw_len h samples = pieces_len (sample_len h.kind) (sample_of h samples) 0 (h.bands * h.size.h * h.size.w) (λ j. sample_bytes_len h (samples (band_by h.layout h j) (column_by h.layout h j) (line_by h.layout h j)))
+raw_len h samples = pieces_len (sample_len h.kind) (sample_of h samples) 0 (h.bands * h.size.h * h.size.w) (λ j. sample_bytes_len h (samples (sample_band_by h.layout h j) (column_by h.layout h j) (line_by h.layout h j)))
 
 -- an item of a list that is made of a function
 pub made_at : (f : ℕ → ℤ) (n i : ℕ) → i < n → get_or (map f (range_with_len 0 n)) i (pos 0) ≡ f i
@@ -159,7 +159,7 @@ tile_sample side samples x y column line within =
     ap (λ m. tiles.sample_at (drop m b)) (let e : 2 * (y * side + x) ≡ y * (2 * side) + x * 2 = grind arith in e)
     ∙ ap tiles.sample_at (sym (drop-drop (x * 2) (y * (2 * side)) b))
     ∙ front_sample (drop (x * 2) (drop (y * (2 * side)) b)) (drop (x * 2) row) (sym (within_front (x * 2) 2 (2 * side) (drop (y * (2 * side)) b) (omega arith)) ∙ ap (λ (l : List ℕ). take 2 (drop (x * 2) l)) is)
-    ∙ sym (get_or-map-range_with_len (item_of row) 0 (length (line_at samples side y)) x x (pos 0) (omega arith) (zero-add x))
+    ∙ sym (get_or-map-range_with_len (item_at row) 0 (length (line_at samples side y)) x x (pos 0) (omega arith) (zero-add x))
     ∙ ap (λ (l : List ℤ). get_or l x (pos 0)) read
     ∙ made_at (λ u. samples 0 u y) side x column
   where

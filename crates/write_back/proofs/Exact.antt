@@ -15,7 +15,8 @@ use Rattle.write_back.specs.declared.forms.Writer.TheVariants.{Raw, Hgt, Dted}
 use Rattle.dted_records.specs.Written.{record_bytes}
 use Rattle.write_back.specs.Columns.{Cell}
 use Rattle.write_back.specs.Pieces.{AreBytes}
-use Rattle.write_back.specs.Files.{HasSamples, line_at, column_at, tile_bytes, cell_bytes}
+use Rattle.write_back.specs.Files.{line_at, column_at, tile_bytes, cell_bytes}
+use Rattle.write_back.specs.Drafts.{HasSamples}
 use Rattle.write_back.proofs.Blocks.{range_same}
 use Rattle.write_back.proofs.CellBlocks.{record_before}
 use Rattle.write_back.proofs.Data.{chunks}

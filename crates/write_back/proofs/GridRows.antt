@@ -16,9 +16,10 @@ use Rattle.ascii_grid.specs.Row.{row_of, value_or_zero}
 use Rattle.ascii_grid.proofs.Again.{all_of, body_again}
 use Rattle.ascii_grid.proofs.RowReads.{body_values}
 use Rattle.write_back.specs.declared.rows.GridForm.{GridForm}
-use Rattle.write_back.specs.Grids.{front_of, lines_text, rows_in, grid_at, grid_in, HasRows}
+use Rattle.write_back.specs.Grids.{front_of, lines_text, grid_at, grid_in, HasRows}
+use Rattle.write_back.specs.Spots.{cut_rows}
 use Rattle.write_back.specs.View.{Output, Rows, IsIn}
-use Rattle.write_back.specs.Overlay.{IsInside, IsOverlaid}
+use Rattle.write_back.specs.Overlay.{IsInBandRect, IsOverlaid}
 use Rattle.write_back.specs.Files.{line_at, grid_text}
 
 -- the values of the tokens of lines
@@ -110,20 +111,20 @@ range_snoc f k zero = ap (λ i. f i ∷ []) (let e : k ≡ k + 0 = omega arith i
 range_snoc f k (suc n) = ap (λ (l : List (List ℤ)). f k ∷ l) (range_snoc f (k + 1) n ∙ ap (λ i. map f (range_with_len (k + 1) n) ++ f i ∷ []) (let e : k + 1 + n ≡ k + suc n = omega arith in e))
 
 -- the rows of a rectangle up to one more
-pub rows_snoc : (w n : ℕ) (samples : List ℤ) (rows : List (List ℤ)) → rows ++ rows_in w (n + 1) samples ≡ (rows ++ rows_in w n samples) ++ take w (drop (n * w) samples) ∷ []
+pub rows_snoc : (w n : ℕ) (samples : List ℤ) (rows : List (List ℤ)) → rows ++ cut_rows w (n + 1) samples ≡ (rows ++ cut_rows w n samples) ++ take w (drop (n * w) samples) ∷ []
 rows_snoc w n samples rows =
-    ap (λ m. rows ++ rows_in w m samples) (let e : n + 1 ≡ suc n = omega arith in e)
-    ∙ ap (λ (l : List (List ℤ)). rows ++ l) (range_snoc (λ r. take w (drop (r * w) samples)) 0 n ∙ ap (λ i. rows_in w n samples ++ take w (drop (i * w) samples) ∷ []) (zero-add n))
-    ∙ sym (append_assoc rows (rows_in w n samples) (take w (drop (n * w) samples) ∷ []))
+    ap (λ m. rows ++ cut_rows w m samples) (let e : n + 1 ≡ suc n = omega arith in e)
+    ∙ ap (λ (l : List (List ℤ)). rows ++ l) (range_snoc (λ r. take w (drop (r * w) samples)) 0 n ∙ ap (λ i. cut_rows w n samples ++ take w (drop (i * w) samples) ∷ []) (zero-add n))
+    ∙ sym (append_assoc rows (cut_rows w n samples) (take w (drop (n * w) samples) ∷ []))
 
 -- the samples that a grid shows after a window of whole lines
 pub rows_overlaid : (g : GridForm) (rect : Rect) (n m : ℕ) (old new : Option (List ℕ)) (rows : List (List ℤ)) (samples : List ℤ) → rect.x ≡ 0 → rect.w ≡ g.size.w → rect.y ≡ n → rect.y + rect.h ≤ g.size.h → length samples ≡ rect.w * rect.h
-    → HasRows g n old rows → HasRows g m new (rows ++ rows_in rect.w rect.h samples) → IsOverlaid (IsIn (Rows g)) 0 rect samples (λ k x y. grid_in g old x y) (λ k x y. grid_in g new x y)
+    → HasRows g n old rows → HasRows g m new (rows ++ cut_rows rect.w rect.h samples) → IsOverlaid (IsIn (Rows g)) 0 rect samples (λ k x y. grid_in g old x y) (λ k x y. grid_in g new x y)
 rows_overlaid g rect n m old new rows samples left wide top down size has now = record {
   inside = λ x y column row. (
       shown_new (rect.x + x) (rect.y + y) (omega arith) (omega arith)
-      ∙ ap (λ (l : List ℤ). get_or l (rect.x + x) (pos 0)) (get_or-append_right rows (rows_in rect.w rect.h samples) rect.y (rect.y + y) [] (has.count ∙ sym top) (omega arith))
-      ∙ ap (λ i. get_or (get_or (rows_in rect.w rect.h samples) i []) (rect.x + x) (pos 0)) (let e : rect.y + y - rect.y ≡ y = omega arith in e)
+      ∙ ap (λ (l : List ℤ). get_or l (rect.x + x) (pos 0)) (get_or-append_right rows (cut_rows rect.w rect.h samples) rect.y (rect.y + y) [] (has.count ∙ sym top) (omega arith))
+      ∙ ap (λ i. get_or (get_or (cut_rows rect.w rect.h samples) i []) (rect.x + x) (pos 0)) (let e : rect.y + y - rect.y ≡ y = omega arith in e)
       ∙ ap (λ (l : List ℤ). get_or l (rect.x + x) (pos 0)) (get_or-map-range_with_len (λ r. take rect.w (drop (r * rect.w) samples)) 0 rect.h y y [] row (zero-add y))
       ∙ ap (λ i. get_or (take rect.w (drop (y * rect.w) samples)) i (pos 0)) (let e : rect.x + x ≡ x = omega arith in e)
       ∙ get_or-take rect.w (drop (y * rect.w) samples) x (pos 0) column
@@ -135,10 +136,10 @@ rows_overlaid g rect n m old new rows samples left wide top down size has now = 
       let l : y < g.size.h = p.line in
       let b : k < 1 = p.band in
       shown_new x y c l
-      ∙ ⊎_elim (λ (above : y < n). ap (λ (r : List ℤ). get_or r x (pos 0)) (get_or_append_left rows (rows_in rect.w rect.h samples) [] y (let q = has.count in omega arith)))
+      ∙ ⊎_elim (λ (above : y < n). ap (λ (r : List ℤ). get_or r x (pos 0)) (get_or_append_left rows (cut_rows rect.w rect.h samples) [] y (let q = has.count in omega arith)))
       (λ (from : n ≤ y). ⊎_elim
       (λ (inside : y < n + rect.h). absurd (apart_from (record { band_is = omega arith; left = omega arith; right = omega arith; top = omega arith; bottom = omega arith })))
-      (λ (past : n + rect.h ≤ y). ap (λ (r : List ℤ). get_or r x (pos 0)) (no_row (rows ++ rows_in rect.w rect.h samples) y (let q = now_len in omega arith) ∙ sym (no_row rows y (let q = has.count in omega arith))))
+      (λ (past : n + rect.h ≤ y). ap (λ (r : List ℤ). get_or r x (pos 0)) (no_row (rows ++ cut_rows rect.w rect.h samples) y (let q = now_len in omega arith) ∙ sym (no_row rows y (let q = has.count in omega arith))))
       (cases_lt y (n + rect.h)))
       (cases_lt y n)
       ∙ sym (shown_old x y c l)
@@ -149,14 +150,14 @@ rows_overlaid g rect n m old new rows samples left wide top down size has now = 
     shown_by n None rows x y has c l = absurd (let clash : None ≡ Some (front_of g ++ lines_text rows) = has.is in cc)
     shown_by n (Some b) rows x y has c l = row_value g n b rows x y has c l
 
-    shown_new : (x y : ℕ) → x < g.size.w → y < g.size.h → grid_in g new x y ≡ get_or (get_or (rows ++ rows_in rect.w rect.h samples) y []) x (pos 0)
-    shown_new x y c l = shown_by m new (rows ++ rows_in rect.w rect.h samples) x y now c l
+    shown_new : (x y : ℕ) → x < g.size.w → y < g.size.h → grid_in g new x y ≡ get_or (get_or (rows ++ cut_rows rect.w rect.h samples) y []) x (pos 0)
+    shown_new x y c l = shown_by m new (rows ++ cut_rows rect.w rect.h samples) x y now c l
 
     shown_old : (x y : ℕ) → x < g.size.w → y < g.size.h → grid_in g old x y ≡ get_or (get_or rows y []) x (pos 0)
     shown_old x y c l = shown_by n old rows x y has c l
 
-    now_len : length (rows ++ rows_in rect.w rect.h samples) ≡ n + rect.h
-    now_len = length-append rows (rows_in rect.w rect.h samples) ∙ (let c = has.count in let d = length-map-range_with_len (λ r. take rect.w (drop (r * rect.w) samples)) 0 rect.h in omega arith)
+    now_len : length (rows ++ cut_rows rect.w rect.h samples) ≡ n + rect.h
+    now_len = length-append rows (cut_rows rect.w rect.h samples) ∙ (let c = has.count in let d = length-map-range_with_len (λ r. take rect.w (drop (r * rect.w) samples)) 0 rect.h in omega arith)
 
 -- a grid all of whose lines were written is its text
 pub grid_is : (g : GridForm) (d : Option (List ℕ)) (rows : List (List ℤ)) → HasRows g g.size.h d rows → d ≡ Some (grid_text g (λ k x y. grid_in g d x y))

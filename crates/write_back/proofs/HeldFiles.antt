@@ -12,7 +12,7 @@ use Rattle.translate_plan.specs.declared.options.Driver.TheVariants.{EHdr, Dted,
 use Rattle.translate_plan.specs.Fits.{cell_in}
 use Rattle.translate_plan.specs.Plan.{Planned, raw_head}
 use Rattle.write_back.specs.declared.forms.Writer.TheVariants as writers
-use Rattle.write_back.specs.Columns.{cell_of}
+use Rattle.write_back.specs.Columns.{cell_with_front}
 use Rattle.write_back.specs.Files.{files_of, raw_bytes, tile_bytes, cell_bytes, grid_text, with_files}
 use Rattle.write_back.specs.Plans.{grid_form, output_by, output_of, IsNamedFor}
 use Rattle.write_back.specs.Reading.{HasFiles}
@@ -39,7 +39,7 @@ kept_by EHdr m name p o samples driver e is =
     subst (Keeps m name samples) (is_same _ o e) (record { has = (stays_there (insert m name b) name (header_of name) b text ne (put_there m name b), (put_there (insert m name b) (header_of name) text, tt)) })
 kept_by (Dted level) m name p o samples driver e is =
     let c = cell_found (cell_in level p.size p.geo) o e in
-    subst (Keeps m name samples) (sym c.output) (record { has = (put_there m name (cell_bytes (cell_of c.head (head_text c.head)) samples), tt) })
+    subst (Keeps m name samples) (sym c.output) (record { has = (put_there m name (cell_bytes (cell_with_front c.head (head_text c.head)) samples), tt) })
 kept_by SrtmHgt m name p o samples driver e is = subst (Keeps m name samples) (is_same _ o e) (record { has = (put_there m name (tile_bytes p.size.w samples), tt) })
 kept_by AaiGrid m name p o samples driver e is = subst (Keeps m name samples) (is_same _ o e) (record { has = (put_there m name (grid_text (grid_form p) samples), tt) })
 kept_by Vrt m name p o samples driver e is = absurd cc

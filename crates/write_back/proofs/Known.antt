@@ -6,8 +6,10 @@ use Rattle.std.proofs.lemmas.List.Sums.{AllPass-from_list_all, list_all-from_All
 use Rattle.std.proofs.lemmas.List.FromFn.{length-range_with_len, get_or-range_with_len, length-map-range_with_len, get_or-map-range_with_len}
 use Rattle.band_blocks.specs.declared.key.BlockKey.{BlockKey}
 use Rattle.write_back.specs.declared.forms.Writer.{Writer}
-use Rattle.write_back.specs.Forms.{cut_of, under, IsSpot}
-use Rattle.write_back.specs.Overlay.{line_key, held_in, IsBlockWritten}
+use Rattle.write_back.specs.Forms.{cut_of, under}
+use Rattle.write_back.specs.Spots.{IsSpot}
+use Rattle.write_back.specs.Overlay.{line_key, held_in}
+use Rattle.write_back.specs.Stores.{IsBlockWritten}
 use Rattle.write_back.specs.Unwritten.{Marks, is_written, is_zero, is_blank_block, are_blank, known, IsBlank, AreBlank}
 
 zero_is : (n : ℤ) → is_zero n ≡ true → n ≡ pos 0

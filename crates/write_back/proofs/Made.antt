@@ -11,8 +11,9 @@ use Rattle.dted_records.specs.Places as cell
 use Rattle.write_back.specs.declared.forms.Writer.{Writer}
 use Rattle.write_back.specs.declared.forms.Writer.TheVariants.{Raw, Hgt, Dted}
 use Rattle.write_back.specs.declared.rows.GridForm.{GridForm}
-use Rattle.write_back.specs.Columns.{Cell, cell_of}
-use Rattle.write_back.specs.Forms.{band_total, block_of, cut_of, needed_of, plane_of, spot_of, under, IsFormed, IsSpot}
+use Rattle.write_back.specs.Columns.{Cell, cell_with_front}
+use Rattle.write_back.specs.Forms.{band_total, block_of, cut_of, needed_of, plane_of, spot_of, under, IsFormed}
+use Rattle.write_back.specs.Spots.{IsSpot}
 use Rattle.write_back.specs.Grids.{front_of, grid_in, HasRows}
 use Rattle.write_back.specs.Overlay.{overlay}
 use Rattle.write_back.specs.Pieces.{spot_place, AreBytes}
@@ -54,7 +55,7 @@ raw_zero h n is long k u v spot = zero_sample h n (spot_place h k u v) (let last
 pub tile_zero : (side : ℕ) → (k u v : ℕ) → IsSpot (Hgt side) k u v → under (Hgt side) (replicate (2 * (side * side)) 0) k u v ≡ pos 0
 tile_zero side k u v spot = zero_tile side u v spot.spot spot.block
 
-pub cell_zero : (h : dted.Head) (front : List ℕ) → length front ≡ cell.record_of h 0 → AreBytes front → (k u v : ℕ) → IsSpot (Dted (cell_of h front)) k u v → under (Dted (cell_of h front)) (front ++ replicate (cell.needed_of h - length front) 0) k u v ≡ pos 0
+pub cell_zero : (h : dted.Head) (front : List ℕ) → length front ≡ cell.record_of h 0 → AreBytes front → (k u v : ℕ) → IsSpot (Dted (cell_with_front h front)) k u v → under (Dted (cell_with_front h front)) (front ++ replicate (cell.needed_of h - length front) 0) k u v ≡ pos 0
 cell_zero h front len small k u v spot = new_point h front len small v u spot.block spot.spot
 
 -- a grid of which no line is written

@@ -11,7 +11,8 @@ use Rattle.block_cache.proofs.Held.{held_after_admit, held_after_patch}
 use Rattle.write_back.specs.declared.forms.Writer.{Writer}
 use Rattle.write_back.specs.Forms.{cut_of}
 use Rattle.write_back.specs.Overlay.{line_key, HoldsDirty, WasMet}
-use Rattle.write_back.specs.State.{AreMet, Changes, HasDraft, StoreState}
+use Rattle.write_back.specs.State.{HasDraft}
+use Rattle.write_back.specs.Stores.{AreMet, Changes, StoreState}
 
 -- what holds whatever an answer is
 pub ok_any : {T E : Type 0} (r : Result T E) (P : Type 0) → P → OnOk r P

@@ -28,9 +28,9 @@ use Rattle.translate_plan.specs.Plan.{Planned, first_band, out_pixel, raw_head, 
 use Rattle.translate_plan.proofs.Shown.{pixel_held, cell_held}
 use Rattle.translate_plan.proofs.Written.{cell_is, tile_is}
 use Rattle.write_back.specs.declared.forms.Writer.TheVariants as writers
-use Rattle.write_back.specs.Columns.{cell_of, is_elevation}
+use Rattle.write_back.specs.Columns.{cell_with_front, is_elevation}
 use Rattle.write_back.specs.Plans.{cell_output, grid_form, output_by, output_of}
-use Rattle.write_back.specs.View.{Output, Blocks, Rows, bands_of, columns_of, is_writable, rows_of}
+use Rattle.write_back.specs.View.{Output, Blocks, Rows, bands_of, columns_of, is_writable, line_count_of}
 
 pub is_same : (a b : Output) → Some a ≡ Some b → a ≡ b
 is_same a b e = cc
@@ -39,7 +39,7 @@ is_same a b e = cc
 pub record IsCellOf (m : Option cells.Head) (o : Output) : Type 0 where
   pub head : cells.Head
   pub found : m ≡ Some head
-  pub output : o ≡ Blocks (writers.Dted (cell_of head (head_text head)))
+  pub output : o ≡ Blocks (writers.Dted (cell_with_front head (head_text head)))
 
 pub cell_found : (m : Option cells.Head) (o : Output) → cell_output m ≡ Some o → IsCellOf m o
 cell_found None o e = absurd cc
@@ -64,7 +64,7 @@ tile_side p plan is = (tile_square p.size p.geo (tile_is p plan is)).1
 pub record HasSize (bands : ℕ) (size : Size) (o : Output) : Type 0 where
   pub bands_are : bands_of o ≡ bands
   pub columns_are : columns_of o ≡ size.w
-  pub lines_are : rows_of o ≡ size.h
+  pub lines_are : line_count_of o ≡ size.h
 
 pub one_band : (p : Planned) (d : Driver) → IsPlan p → p.driver ≡ d → is_single d ≡ true → 1 ≡ length p.bands
 one_band p d plan is single = let few = plan.single (ap is_single is ∙ single) in let some = plan.some_band in omega arith

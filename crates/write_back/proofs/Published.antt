@@ -10,8 +10,10 @@ use Rattle.write_back.specs.declared.forms.Writer.{Writer}
 use Rattle.write_back.specs.Forms.{band_total, block_of, cut_of, plane_of, pixel_sample, spot_of, TellsMet}
 use Rattle.write_back.proofs.Woven.{spot_is}
 use Rattle.write_back.specs.View.{Blocks, pixel_sample_in, shown_on}
-use Rattle.write_back.specs.Files.{HasSamples, HasHeader, ArePut, IsHeaderPut, files_with, header_file, header_state, published_by, published_of, with_files}
-use Rattle.write_back.specs.Overlay.{overlay, AreSame, Stays, WasMet}
+use Rattle.write_back.specs.Files.{HasHeader, header_file, header_state, published_of, with_files}
+use Rattle.write_back.specs.Drafts.{HasSamples, ArePut, IsHeaderPut, files_with, published_by}
+use Rattle.write_back.specs.Overlay.{overlay, WasMet}
+use Rattle.write_back.specs.Stores.{AreSame, Stays}
 use Rattle.write_back.specs.State.{HasDraft}
 
 -- the first files under their names

@@ -7,7 +7,7 @@ use Rattle.translate_plan.specs.declared.options.Driver.TheVariants.{EHdr, Dted,
 use Rattle.translate_plan.specs.Fits.{cell_in}
 use Rattle.translate_plan.specs.Plan.{Planned, raw_head, IsPlan}
 use Rattle.write_back.specs.declared.forms.Writer.TheVariants as writers
-use Rattle.write_back.specs.Columns.{cell_of}
+use Rattle.write_back.specs.Columns.{cell_with_front}
 use Rattle.write_back.specs.Files.{files_of}
 use Rattle.write_back.specs.Plans.{grid_form, output_by, output_of}
 use Rattle.write_back.specs.Reading.{HasFiles, AreSamplesOf, IsDecoded, IsReadable}
@@ -28,7 +28,7 @@ decoded_by EHdr m v name p o samples plan driver e is asked =
     raw_decoded m v name p samples plan driver is a.held a.has
 decoded_by (Dted level) m v name p o samples plan driver e is asked =
     let c = cell_found (cell_in level p.size p.geo) o e in
-    let a : IsAsked m name samples (Blocks (writers.Dted (cell_of c.head (head_text c.head)))) = subst (IsAsked m name samples) c.output asked in
+    let a : IsAsked m name samples (Blocks (writers.Dted (cell_with_front c.head (head_text c.head)))) = subst (IsAsked m name samples) c.output asked in
     cell_decoded m v name p samples level c.head plan driver is c.found a.held a.has
 decoded_by SrtmHgt m v name p o samples plan driver e is asked =
     let a : IsAsked m name samples (Blocks (writers.Hgt p.size.w)) = subst (IsAsked m name samples) (sym (is_same _ o e)) asked in

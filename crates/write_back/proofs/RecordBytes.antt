@@ -9,7 +9,7 @@ use Rattle.std.proofs.lemmas.Bool.{cases_lt}
 use Rattle.std.proofs.lemmas.List.FromFn.{fill_by_all, length-map-range_with_len, get_or-map-range_with_len}
 use Rattle.byteorder.specs.Endian.{big_number, big_bytes}
 use Rattle.byteorder.specs.Numbers.{length-bytes_high_first, big_from-lt}
-use Rattle.dted_records.specs.Records.{elevation, elevation_in, point_of, two_at, dted_at, column_of}
+use Rattle.dted_records.specs.Records.{elevation, elevation_in, point_place_of, two_at, dted_at, column_of}
 use Rattle.dted_records.specs.Head.{Head, part}
 use Rattle.dted_records.specs.Places.{record_len}
 use Rattle.dted_records.specs.Written.{IsElevation, elevation_bytes, front_bytes, points_bytes, summed_bytes, record_bytes}
@@ -64,4 +64,4 @@ elevations h bytes small = λ k d below.
     let n = length-map-range_with_len (elevation_in h bytes) 0 h.points in
     let less : k < h.points = omega arith in
     ap is_elevation (get_or-map-range_with_len (elevation_in h bytes) 0 h.points k k d less (zero-add k))
-    ∙ elevation_in_range (two_at bytes (point_of h k)) (big_from-lt 0 2 (part (point_of h k) 2 bytes) (part_small (point_of h k) bytes small))
+    ∙ elevation_in_range (two_at bytes (point_place_of h k)) (big_from-lt 0 2 (part (point_place_of h k) 2 bytes) (part_small (point_place_of h k) bytes small))

@@ -17,7 +17,8 @@ use Rattle.lists_and_answers.proofs.Stands.{stands-part}
 use Rattle.catalog.specs.Places.{steps_over}
 use Rattle.band_blocks.specs.Blocks.{written}
 use Rattle.band_blocks.proofs.Corners.{step_within, reach}
-use Rattle.write_back.specs.Pieces.{plain_of, planes_of, spot_at, spot_place, spots_from, spots_of, AreBytes, IsInRun, IsLineSpot, IsRunWritten}
+use Rattle.write_back.specs.Pieces.{planes_of, spot_at, spot_place, spots_of, AreBytes}
+use Rattle.write_back.specs.Spots.{plain_of, spots_from, IsInRun, IsLineSpot, IsRunWritten}
 use Rattle.write_back.proofs.Lines.{written_below, written_here}
 use Rattle.write_back.proofs.Woven.{spot_ends, spots_apart}
 

@@ -8,15 +8,19 @@ use Rattle.outside.specs.Outside.{Files}
 use Rattle.block_cache.specs.Entries.{PoolView, pool_view}
 use Rattle.write_back.specs.declared.forms.Writer.{Writer}
 use Rattle.write_back.specs.declared.forms.Writer.TheVariants.{Raw, Hgt, Dted}
-use Rattle.write_back.specs.Forms.{band_total, cut_of, pixel_sample, HasPixel, most_calls}
-use Rattle.write_back.specs.Overlay.{overlay, AreSame, IsOverlaid, IsWindow, Stays, WasMet}
-use Rattle.write_back.specs.State.{StoreState, AreMet, Changes, HasDraft, IsRight, IsSound, Serves, lines_met}
-use Rattle.write_back.specs.View.{Output, Blocks, Rows, SheetView, all_blocks, calls_of, columns_of, is_writable, shown_on, pixel_sample_in, AreWritable, Finishes, IsIn, IsMetOn, IsNext, Keeps, Meets, Puts}
-use Rattle.write_back.specs.Files.{block_bytes, grid_text, HasBytes, HasSamples, IsBlockForm, IsWholeOn}
+use Rattle.write_back.specs.Forms.{band_total, cut_of, pixel_sample, most_calls}
+use Rattle.write_back.specs.Spots.{HasPixel, cut_rows}
+use Rattle.write_back.specs.Overlay.{overlay, IsOverlaid, WasMet}
+use Rattle.write_back.specs.Stores.{AreSame, IsWindow, Stays, StoreState, AreMet, Changes, Serves}
+use Rattle.write_back.specs.State.{HasDraft, IsRight, IsSound, lines_met}
+use Rattle.write_back.specs.View.{Output, Blocks, Rows, SheetView, all_blocks, calls_of, columns_of, is_writable, shown_on, pixel_sample_in, AreWritable, IsIn, IsMetOn, IsNext, Meets}
+use Rattle.write_back.specs.Served.{Finishes, Keeps, PutsWindow}
+use Rattle.write_back.specs.Files.{block_bytes, grid_text, IsBlockForm, IsWholeOn}
+use Rattle.write_back.specs.Drafts.{HasBytes, HasSamples}
 use Rattle.write_back.proofs.Data.{data_is}
 use Rattle.write_back.proofs.Exact.{tile_is, cell_is}
 use Rattle.write_back.proofs.GridRows.{grid_is, rows_overlaid}
-use Rattle.write_back.specs.Grids.{HasRows, grid_in, rows_in}
+use Rattle.write_back.specs.Grids.{HasRows, grid_in}
 use Rattle.write_back.specs.declared.rows.GridForm.{GridForm}
 use Rattle.write_back.proofs.Published.{flushed_samples}
 use Rattle.write_back.proofs.Counting.{few_held}
@@ -131,7 +135,7 @@ module _ (w : Writer) where
   }
 
   pub blocks_put : (band : ℕ) (rect : Rect) (samples : List ℤ) (s t : StoreState) → IsRight w s.told s.len s.draft s.pool → band < band_total w → t.told ≡ s.told → Changes w (IsWindow w band rect samples) s t → ((cut_of w).by_columns ≡ true → AreMet w band rect.x rect.w s t)
-      → Puts band rect samples s.told t.told (blocks_at s) (blocks_at t)
+      → PutsWindow band rect samples s.told t.told (blocks_at s) (blocks_at t)
   blocks_put band rect samples s t right less told changed met = record {
     right = right_after w (IsWindow w band rect samples) s t right told changed;
     overlay = λ some. window_shown w band rect samples s t right changed some;
@@ -156,10 +160,10 @@ kept_of w w' rect s t old new is now same a =
     (subst (λ v. Keeps rect (blocks_at w s) v s.told t.told s.reads t.reads s.calls t.calls s.writes t.writes) (ap (λ u. blocks_at u t) (sym same) ∙ now) (blocks_kept w rect s t a))
 
 pub put_of : (w w' : Writer) (band : ℕ) (rect : Rect) (samples : List ℤ) (s t : StoreState) (old new : SheetView) → blocks_at w s ≡ old → blocks_at w' t ≡ new → w' ≡ w → IsRight w s.told s.len s.draft s.pool → band < band_total w → t.told ≡ s.told
-    → Changes w (IsWindow w band rect samples) s t → ((cut_of w).by_columns ≡ true → AreMet w band rect.x rect.w s t) → Puts band rect samples s.told t.told old new
+    → Changes w (IsWindow w band rect samples) s t → ((cut_of w).by_columns ≡ true → AreMet w band rect.x rect.w s t) → PutsWindow band rect samples s.told t.told old new
 put_of w w' band rect samples s t old new is now same right less told changed met =
-    subst (λ v. Puts band rect samples s.told t.told v new) is
-    (subst (λ v. Puts band rect samples s.told t.told (blocks_at w s) v) (ap (λ u. blocks_at u t) (sym same) ∙ now) (blocks_put w band rect samples s t right less told changed met))
+    subst (λ v. PutsWindow band rect samples s.told t.told v new) is
+    (subst (λ v. PutsWindow band rect samples s.told t.told (blocks_at w s) v) (ap (λ u. blocks_at u t) (sym same) ∙ now) (blocks_put w band rect samples s t right less told changed met))
 
 pub finished_of : (w w' : Writer) (s t : StoreState) (old new : SheetView) → blocks_at w s ≡ old → blocks_at w' t ≡ new → w' ≡ w → IsSound w s.pool → Serves w (length s.pool.entries) (length s.pool.entries) s t → Finishes old new s.told t.told s.reads t.reads s.calls t.calls s.writes t.writes
 finished_of w w' s t old new is now same sound a =
@@ -190,10 +194,10 @@ module _ (g : GridForm) where
   }
 
   pub rows_put : (band : ℕ) (rect : Rect) (samples : List ℤ) (told told' : Option Files) (d d' : Option (List ℕ)) (l l' : ℕ) (name name' : List ℕ) (n n' : ℕ) → band < 1 → IsNext (Rows g) n rect → rect.y + rect.h ≤ g.size.h → length samples ≡ rect.w * rect.h → told' ≡ told → n' ≡ n + rect.h
-      → ((m : Files) → told ≡ Some m → (rows : List (List ℤ)) × HasRows g n d rows) → ((rows : List (List ℤ)) → HasRows g n d rows → HasRows g n' d' (rows ++ rows_in rect.w rect.h samples))
-      → Puts band rect samples told told' (rows_at d l name n) (rows_at d' l' name' n')
+      → ((m : Files) → told ≡ Some m → (rows : List (List ℤ)) × HasRows g n d rows) → ((rows : List (List ℤ)) → HasRows g n d rows → HasRows g n' d' (rows ++ cut_rows rect.w rect.h samples))
+      → PutsWindow band rect samples told told' (rows_at d l name n) (rows_at d' l' name' n')
   rows_put band rect samples told told' d d' l l' name name' n n' one next down size names lines right more = record {
-    right = λ m e. (let has = right m (sym names ∙ e) in (has.0 ++ rows_in rect.w rect.h samples, more has.0 has.1));
+    right = λ m e. (let has = right m (sym names ∙ e) in (has.0 ++ cut_rows rect.w rect.h samples, more has.0 has.1));
     overlay = λ some. (
         let m = told_by told some in
         let has = right m.0 m.1 in
@@ -230,10 +234,10 @@ rows_kept_of g g' rect told told' d d' l l' name name' n n' r r' c c' w w' old n
 
 pub rows_put_of : (g g' : GridForm) (band : ℕ) (rect : Rect) (samples : List ℤ) (told told' : Option Files) (d d' : Option (List ℕ)) (l l' : ℕ) (name name' : List ℕ) (n n' : ℕ) (old new : SheetView) → rows_at g d l name n ≡ old → rows_at g' d' l' name' n' ≡ new → g' ≡ g
     → band < 1 → IsNext (Rows g) n rect → rect.y + rect.h ≤ g.size.h → length samples ≡ rect.w * rect.h → told' ≡ told → n' ≡ n + rect.h
-    → ((m : Files) → told ≡ Some m → (rows : List (List ℤ)) × HasRows g n d rows) → ((rows : List (List ℤ)) → HasRows g n d rows → HasRows g n' d' (rows ++ rows_in rect.w rect.h samples)) → Puts band rect samples told told' old new
+    → ((m : Files) → told ≡ Some m → (rows : List (List ℤ)) × HasRows g n d rows) → ((rows : List (List ℤ)) → HasRows g n d rows → HasRows g n' d' (rows ++ cut_rows rect.w rect.h samples)) → PutsWindow band rect samples told told' old new
 rows_put_of g g' band rect samples told told' d d' l l' name name' n n' old new is now same one next down size names lines right more =
-    subst (λ v. Puts band rect samples told told' v new) is
-    (subst (λ v. Puts band rect samples told told' (rows_at g d l name n) v) (ap (λ u. rows_at u d' l' name' n') (sym same) ∙ now)
+    subst (λ v. PutsWindow band rect samples told told' v new) is
+    (subst (λ v. PutsWindow band rect samples told told' (rows_at g d l name n) v) (ap (λ u. rows_at u d' l' name' n') (sym same) ∙ now)
     (rows_put g band rect samples told told' d d' l l' name name' n n' one next down size names lines right more))
 
 -- samples that each can be written

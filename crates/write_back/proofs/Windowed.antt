@@ -6,16 +6,17 @@ use Rattle.geotransform.specs.declared.types.Rect.{Rect}
 use Rattle.outside.specs.Outside.{Files}
 use Rattle.write_back.specs.declared.fault.TargetFault.{TargetFault}
 use Rattle.write_back.specs.Overlay.{IsOverlaid}
-use Rattle.write_back.specs.View.{Output, Blocks, Rows, SheetView, window_blocks, calls_of, lines_after, shown_on, target_of, IsIn, IsNext, IsRightOn, IsSoundOn, Keeps, Puts, Shows}
+use Rattle.write_back.specs.View.{Output, Blocks, Rows, SheetView, window_blocks, calls_of, lines_after, shown_on, target_of, IsIn, IsNext, IsRightOn, IsSoundOn, Shows}
+use Rattle.write_back.specs.Served.{Keeps, PutsWindow}
 use Rattle.write_back.specs.Files.{header_in, HasHeader, IsForm, IsTarget}
 
-right_after : (o : Output) (told told' : Option Files) (band : ℕ) (rect : Rect) (samples : List ℤ) (s n : SheetView) (done : Result (Unit {0}) TargetFault) → n.output ≡ s.output → OnOk done (Puts band rect samples told told' s n) → result_err done ≡ None → IsRightOn n.output told' n
+right_after : (o : Output) (told told' : Option Files) (band : ℕ) (rect : Rect) (samples : List ℤ) (s n : SheetView) (done : Result (Unit {0}) TargetFault) → n.output ≡ s.output → OnOk done (PutsWindow band rect samples told told' s n) → result_err done ≡ None → IsRightOn n.output told' n
 right_after o told told' band rect samples s n (Ok x) same put none = subst (λ u. IsRightOn u told' n) (sym same) put.right
 right_after o told told' band rect samples s n (Err e) same put none = absurd (let clash : Some e ≡ None = none in cc)
 
 -- a target whose data took a window
 pub target_after : (band : ℕ) (rect : Rect) (samples : List ℤ) (told told' : Option Files) (r r' c c' w w' : ℕ) (s n : SheetView) (header : Option (Option (List ℕ) × List ℕ)) (done : Result (Unit {0}) TargetFault) (fault : Option TargetFault) → IsTarget told (target_of s header None)
-    → Keeps rect s n told told' r r' c c' w w' → OnOk done (Puts band rect samples told told' s n) → fault ≡ result_err done → IsTarget told' (target_of n header fault)
+    → Keeps rect s n told told' r r' c c' w w' → OnOk done (PutsWindow band rect samples told told' s n) → fault ≡ result_err done → IsTarget told' (target_of n header fault)
 target_after band rect samples told told' r r' c c' w w' s n header done fault was kept put is = record {
   form = subst IsForm (sym kept.output) was.form;
   sound = subst (λ o. IsSoundOn o n) (sym kept.output) kept.sound;
@@ -25,7 +26,7 @@ target_after band rect samples told told' r r' c c' w w' s n header done fault w
 }
 
 -- and shows it
-pub shows_after : (band : ℕ) (rect : Rect) (samples : List ℤ) (told told' : Option Files) (s n : SheetView) (header : Option (Option (List ℕ) × List ℕ)) (f g : Option TargetFault) → n.output ≡ s.output → Puts band rect samples told told' s n → Shows told band rect samples (target_of s header f) (target_of n header g)
+pub shows_after : (band : ℕ) (rect : Rect) (samples : List ℤ) (told told' : Option Files) (s n : SheetView) (header : Option (Option (List ℕ) × List ℕ)) (f g : Option TargetFault) → n.output ≡ s.output → PutsWindow band rect samples told told' s n → Shows told band rect samples (target_of s header f) (target_of n header g)
 shows_after band rect samples told told' s n header f g same put = λ some.
     subst (λ o. IsOverlaid (IsIn s.output) band rect samples (shown_on s.output s.pool s.draft) (shown_on o n.pool n.draft)) (sym same) (put.overlay some)
 
@@ -54,8 +55,8 @@ no_lines (Rows g) n rect form next none = ⊎_elim
     (λ (low : rect.h ≡ 0). omega arith)
     none
 
-pub nothing_put : (band : ℕ) (rect : Rect) (samples : List ℤ) (told : Option Files) (s n : SheetView) → n ≡ s → IsForm s.output → IsRightOn s.output told s → IsNext s.output s.lines rect → (rect.w ≡ 0) ⊎ (rect.h ≡ 0) → Puts band rect samples told told s n
-nothing_put band rect samples told s n same form right next none = subst (λ v. Puts band rect samples told told s v) (sym same) (record {
+pub nothing_put : (band : ℕ) (rect : Rect) (samples : List ℤ) (told : Option Files) (s n : SheetView) → n ≡ s → IsForm s.output → IsRightOn s.output told s → IsNext s.output s.lines rect → (rect.w ≡ 0) ⊎ (rect.h ≡ 0) → PutsWindow band rect samples told told s n
+nothing_put band rect samples told s n same form right next none = subst (λ v. PutsWindow band rect samples told told s v) (sym same) (record {
   right = right;
   overlay = λ some. record {
     inside = λ x y across down. ⊎_elim (λ (narrow : rect.w ≡ 0). absurd (omega arith)) (λ (low : rect.h ≡ 0). absurd (omega arith)) none;

@@ -3,7 +3,7 @@ use Rattle.std.proofs.Common.{◌≡◌, ◌+◌, ◌-◌, ◌*◌, ◌<◌, ◌
 use Rattle.std.specs.Prelude.{nat_eq, nat_lt, ◌&&◌, not, if◌then◌else◌}
 use Rattle.std.proofs.lemmas.Bool.Decides.{nat_tests}
 use Rattle.geotransform.specs.declared.types.Rect.{Rect}
-use Rattle.write_back.specs.Overlay.{IsInside, IsOverlaid}
+use Rattle.write_back.specs.Overlay.{IsInBandRect, IsOverlaid}
 use Rattle.write_back.specs.View.{Output, IsIn}
 use Rattle.write_back.specs.Windows.{Window, covers, lies_in, sample_of_last, AreWritten}
 
@@ -24,7 +24,7 @@ same_number k n is = grind (arith, nat_tests)
 number_same : (k n : ℕ) → k ≡ n → nat_eq k n ≡ true
 number_same k n is = grind (arith, nat_tests)
 
-covered : (w : Window) (k x y : ℕ) → covers w k x y ≡ true → IsInside w.band w.rect k x y
+covered : (w : Window) (k x y : ℕ) → covers w k x y ≡ true → IsInBandRect w.band w.rect k x y
 covered w k x y is =
     let a = both (nat_eq k w.band) (lies_in x w.rect.x w.rect.w && lies_in y w.rect.y w.rect.h) is in
     let b = both (lies_in x w.rect.x w.rect.w) (lies_in y w.rect.y w.rect.h) a.1 in
@@ -35,11 +35,11 @@ covered w k x y is =
 all_three : (a b c : Bool) → a ≡ true → b ≡ true → c ≡ true → a && (b && c) ≡ true
 all_three a b c p q r = rw p (rw q (rw r refl))
 
-covers_inside : (w : Window) (k x y : ℕ) → IsInside w.band w.rect k x y → covers w k x y ≡ true
+covers_inside : (w : Window) (k x y : ℕ) → IsInBandRect w.band w.rect k x y → covers w k x y ≡ true
 covers_inside w k x y is = all_three (nat_eq k w.band) (lies_in x w.rect.x w.rect.w) (lies_in y w.rect.y w.rect.h)
     (number_same k w.band is.band_is) (inside_lies x w.rect.x w.rect.w is.left is.right) (inside_lies y w.rect.y w.rect.h is.top is.bottom)
 
-shown_inside : (o : Output) (w : Window) (old new : ℕ → ℕ → ℕ → ℤ) (k x y : ℕ) → IsOverlaid (IsIn o) w.band w.rect w.samples old new → IsInside w.band w.rect k x y
+shown_inside : (o : Output) (w : Window) (old new : ℕ → ℕ → ℕ → ℤ) (k x y : ℕ) → IsOverlaid (IsIn o) w.band w.rect w.samples old new → IsInBandRect w.band w.rect k x y
     → new k x y ≡ get_or w.samples ((y - w.rect.y) * w.rect.w + (x - w.rect.x)) (pos 0)
 shown_inside o w old new k x y over is =
     let left = is.left in let right = is.right in let top = is.top in let bottom = is.bottom in

@@ -10,9 +10,11 @@ use Rattle.interleaved_raw.proofs.Apart.{apart}
 use Rattle.interleaved_raw.proofs.Order.{further, ends_within}
 use Rattle.write_back.specs.declared.forms.Writer.{Writer}
 use Rattle.write_back.specs.declared.forms.Writer.TheVariants.{Raw, Hgt, Dted}
-use Rattle.write_back.specs.Forms.{band_total, block_of, cut_of, line_total, band_places_of, plane_of, pixel_sample, pixel_sample_by, spot_of, under, column_total, HasPixel, IsSpot}
-use Rattle.write_back.specs.Overlay.{line_rect, IsOverlaid, IsPut, IsWindow}
-use Rattle.write_back.specs.Pieces.{is_woven, band_places_by, planes_by, planes_of, spot_place, spots_by, spots_of, IsLineSpot}
+use Rattle.write_back.specs.Forms.{band_total, block_of, cut_of, line_total, plane_of, pixel_sample, pixel_sample_by, spot_of, under, column_total}
+use Rattle.write_back.specs.Spots.{band_places_of, HasPixel, IsSpot, band_places_by, IsLineSpot}
+use Rattle.write_back.specs.Overlay.{IsOverlaid}
+use Rattle.write_back.specs.Stores.{line_rect, IsPut, IsWindow}
+use Rattle.write_back.specs.Pieces.{is_woven, planes_by, planes_of, spot_place, spots_by, spots_of}
 
 -- the band and the column of a sample of a line
 abbrev band_back : Layout → ℕ → ℕ → ℕ → ℕ

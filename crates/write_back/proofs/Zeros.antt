@@ -5,8 +5,8 @@ use Rattle.std.proofs.lemmas.Bool.{cases_lt}
 use Rattle.dted_records.specs.Head as dted
 use Rattle.dted_records.specs.Places.{record_of, record_len}
 use Rattle.dted_records.specs.Places as cell
-use Rattle.dted_records.specs.Records.{elevation, dted_at, point_of}
-use Rattle.write_back.specs.Columns.{cell_of, IsBegun, IsCell}
+use Rattle.dted_records.specs.Records.{elevation, dted_at, point_place_of}
+use Rattle.write_back.specs.Columns.{cell_with_front, IsBegun, IsCell}
 use Rattle.write_back.specs.Pieces.{AreBytes}
 use Rattle.write_back.proofs.CellBlocks.{record_before}
 use Rattle.geotransform.specs.declared.types.PixelType.{PixelType}
@@ -74,7 +74,7 @@ module _ (h : dted.Head) (front : List ℕ) (len : length front ≡ record_of h 
   zero_point : (x y : ℕ) → x < h.lines → y < h.points → dted_at h (front ++ replicate (cell.needed_of h - length front) 0) x y ≡ pos 0
   zero_point x y less row =
       let m = record_before h x h.lines less in
-      ap (λ (l : List ℕ). elevation (big_number 2 l)) (behind front (cell.needed_of h - length front) (record_of h x + point_of h y) 2 (omega arith) (omega arith))
+      ap (λ (l : List ℕ). elevation (big_number 2 l)) (behind front (cell.needed_of h - length front) (record_of h x + point_place_of h y) 2 (omega arith) (omega arith))
 
   none_begun : (x : ℕ) → x < h.lines → IsBegun h (front ++ replicate (cell.needed_of h - length front) 0) x → ⊥
   none_begun x less begun =
@@ -90,7 +90,7 @@ module _ (h : dted.Head) (front : List ℕ) (len : length front ≡ record_of h 
       (λ (past : length front ≤ i). let e = get_or-append_right front (replicate (cell.needed_of h - length front) 0) (length front) i 0 refl past in let s = zeros_small (cell.needed_of h - length front) (i - length front) in omega arith)
       (cases_lt i (length front))
 
-  pub new_cell : IsCell (cell_of h front) (front ++ replicate (cell.needed_of h - length front) 0)
+  pub new_cell : IsCell (cell_with_front h front) (front ++ replicate (cell.needed_of h - length front) 0)
   new_cell = record {
     small = all_small;
     front = take_at front (replicate (cell.needed_of h - length front) 0) (record_of h 0) len;

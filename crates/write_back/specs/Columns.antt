@@ -15,8 +15,8 @@ pub record Cell : Type 0 where
   pub front : List ℕ
 
 -- a cell of a head, with the bytes in front of its records
-abbrev pub cell_of : Head → List ℕ → Cell
-cell_of head front = record { head = head; front = front }
+abbrev pub cell_with_front : Head → List ℕ → Cell
+cell_with_front head front = record { head = head; front = front }
 
 -- whether sign and magnitude can write an elevation in 16 bits
 abbrev pub is_elevation : ℤ → Bool

@@ -1,6 +1,6 @@
 -- The files that an output becomes.
-use Rattle.std.specs.Prelude.{◌≡◌, ◌<◌, ℕ, ℤ, zero, suc, ◌+◌, ◌-◌, ◌*◌, ◌/◌, ◌%◌, List, [], ◌∷◌, ◌++◌, length, map}
-use Rattle.std.specs.Prelude.{take, replicate, Option, Some, None, IsSome, Result, Ok, Err}
+use Rattle.std.specs.Prelude.{◌≡◌, ◌<◌, ℕ, ℤ, ◌*◌, ◌/◌, ◌%◌, List, [], ◌∷◌, ◌++◌, length, map, take, Option, Some, None}
+use Rattle.std.specs.Prelude.{Result, Ok, Err}
 use Rattle.std.specs.List.{flat_map, range_with_len}
 use Rattle.std.specs.FinMap.{insert}
 use Rattle.outside.specs.Outside.{Files}
@@ -11,21 +11,18 @@ use Rattle.esri_hdr.specs.Head.{Head, IsHead, sample_len}
 use Rattle.esri_hdr.specs.Text.{hdr_text}
 use Rattle.geotransform.specs.Geo.{IsRaster}
 use Rattle.interleaved_raw.specs.Raw.{sample_bytes}
-use Rattle.interleaved_raw.specs.Raw as raw
 use Rattle.hgt_tiles.specs.Samples.{row_bytes}
 use Rattle.hgt_tiles.specs.Places.{IsSide}
 use Rattle.dted_records.specs.Places.{record_of}
-use Rattle.write_back.specs.declared.fault.TargetFault.{TargetFault}
 use Rattle.write_back.specs.declared.fault.CloseFault.{CloseFault}
 use Rattle.write_back.specs.declared.forms.Writer.{Writer}
 use Rattle.write_back.specs.declared.forms.Writer.TheVariants.{Raw, Hgt, Dted}
 use Rattle.write_back.specs.declared.rows.GridForm.{GridForm}
 use Rattle.dted_records.specs.Written.{record_bytes}
 use Rattle.write_back.specs.Columns.{Cell}
-use Rattle.write_back.specs.Forms.{cut_of, needed_of, pixel_sample, under, IsFormed, TellsMet, HasPixel}
 use Rattle.write_back.specs.Grids.{front_of, lines_text}
-use Rattle.write_back.specs.View.{Output, Blocks, Rows, SheetView, TargetView, sheet_in, shown, shown_on, IsSoundOn}
-use Rattle.write_back.specs.View.{IsRightOn, IsMetOn}
+use Rattle.write_back.specs.View.{Output, Blocks, Rows, SheetView, TargetView, sheet_in, shown, IsSoundOn, IsRightOn}
+use Rattle.write_back.specs.View.{IsMetOn}
 
 -- nothing but samples stands in a file of the head
 abbrev pub IsTightBy : Layout → Head → Type 0
@@ -39,10 +36,10 @@ pub record IsTight (h : Head) : Type 0 where
   pub rows : IsTightBy h.layout h
 
 -- the band, the column and the line of a sample by its number in the file
-abbrev pub band_by : Layout → Head → ℕ → ℕ
-band_by Bil h i = i / h.size.w % h.bands
-band_by Bip h i = i % h.bands
-band_by Bsq h i = i / h.size.w / h.size.h
+abbrev pub sample_band_by : Layout → Head → ℕ → ℕ
+sample_band_by Bil h i = i / h.size.w % h.bands
+sample_band_by Bip h i = i % h.bands
+sample_band_by Bsq h i = i / h.size.w / h.size.h
 
 abbrev pub column_by : Layout → Head → ℕ → ℕ
 column_by Bil h i = i % h.size.w
@@ -57,7 +54,8 @@ line_by Bsq h i = i / h.size.w % h.size.h
 -- the bytes of raw data: those of the samples, in the order of the file
 abbrev pub raw_bytes : Head → (ℕ → ℕ → ℕ → ℤ) → List ℕ
 raw_bytes h samples =
-    flat_map (λ i. sample_bytes h (samples (band_by h.layout h i) (column_by h.layout h i) (line_by h.layout h i)))
+    flat_map (λ i. sample_bytes h (samples (sample_band_by h.layout h i) (column_by h.layout h i)
+    (line_by h.layout h i)))
     (range_with_len 0 (h.bands * h.size.h * h.size.w))
 
 -- a line and a column of the first band
@@ -133,36 +131,6 @@ abbrev pub header_state : {D : Type 0} → (D → Option (List ℕ)) → (D → 
 header_state bytes name None = None
 header_state bytes name (Some d) = Some (bytes d, name d)
 
--- the drafts of new raw data and of its header, by what they tell, the length of the data and their names
-pub record AreRawDrafts (told : Option Files) (h : Head) (named : List ℕ) (bytes : Option (List ℕ)) (length_is : ℕ)
-    (data_name : List ℕ) (header : Option (List ℕ)) (header_name : List ℕ) : Type 0 where
-  pub zeros : (m : Files) → told ≡ Some m → bytes ≡ Some (replicate (raw.needed_of h) 0)
-  pub len : length_is ≡ raw.needed_of h
-  pub name : data_name ≡ named
-  pub text : (m : Files) → told ≡ Some m → header ≡ Some (hdr_text h)
-  pub beside : header_name ≡ header_of named
-
--- a header was put over a map, where there is one and n isn't 0
-abbrev pub IsHeaderPut : Option (Option (List ℕ) × List ℕ) → ℕ → Files → Option Files → Type 0
-IsHeaderPut None n m new = new ≡ Some m
-IsHeaderPut (Some x) zero m new = new ≡ Some m
-IsHeaderPut (Some x) (suc n) m new = (t : List ℕ) → x.0 ≡ Some t → new ≡ Some (insert m x.1 t)
-
--- the first n files were put over a map: bytes under a name, then a header
-abbrev pub ArePut : Option (Option (List ℕ) × List ℕ) → List ℕ → List ℕ → ℕ → Files → Option Files → Type 0
-ArePut header name bytes zero m new = new ≡ Some m
-ArePut header name bytes (suc n) m new = IsHeaderPut header n (insert m name bytes) new
-
--- how many files there are: the data, and a header where there is one
-abbrev pub files_with : {T : Type 0} → Option T → ℕ
-files_with None = 1
-files_with (Some x) = 2
-
--- how many files an answer says are published, of the data and a header where there is one
-abbrev pub published_by : {T : Type 0} → Option T → Result (Unit {0}) CloseFault → ℕ
-published_by header (Ok x) = files_with header
-published_by header (Err e) = e.published
-
 -- what an output keeps: raw data is samples alone, and the head of a cell is as long as it says
 abbrev pub IsBlockForm : Writer → Type 0
 IsBlockForm (Raw h) = IsHead h × IsTight h
@@ -188,11 +156,6 @@ IsWholeOn (Blocks (Hgt side)) s = Unit {0}
 IsWholeOn (Blocks (Dted c)) s = (x : ℕ) → x < c.head.lines → IsMetOn (Blocks (Dted c)) s x
 IsWholeOn (Rows g) s = s.lines ≡ g.size.h
 
--- the bytes of an output that is whole
-pub record HasBytes (told : Option Files) (old : SheetView) (draft : Option (List ℕ)) : Type 0 where
-  pub all : IsSome told → IsForm old.output → IsWholeOn old.output old →
-      draft ≡ Some (bytes_of old.output (shown_on old.output old.pool old.draft))
-
 -- a target is whole, so it may be closed
 abbrev pub IsWhole : TargetView → Type 0
 IsWhole t = IsWholeOn t.output (sheet_in t)
@@ -206,10 +169,3 @@ target_files t = files_of t.output t.name (shown t)
 abbrev pub Publishes : Option Files → TargetView → Result (Unit {0}) CloseFault → Option Files → Type 0
 Publishes old t result new = (m : Files) → old ≡ Some m → (t.fault ≡ None → IsWhole t) →
     new ≡ Some (with_files (take (published_of (length (target_files t)) result) (target_files t)) m)
-
--- the bytes have the length that an output must have, hold these samples, and tell of each block that was met
-pub record HasSamples (w : Writer) (samples : ℕ → ℕ → ℕ → ℤ) (met : ℕ → ℕ → Type 0) (bytes : List ℕ) : Type 0 where
-  pub len : length bytes ≡ needed_of w
-  pub formed : IsFormed w bytes
-  pub each : (k x y : ℕ) → HasPixel w k x y → pixel_sample w (under w bytes) k x y ≡ samples k x y
-  pub begun : (k v : ℕ) → k < (cut_of w).bands → v < (cut_of w).blocks → met k v → TellsMet w bytes v

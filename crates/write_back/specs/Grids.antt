@@ -1,6 +1,6 @@
 -- A grid that is written line by line.
-use Rattle.std.specs.Prelude.{◌≡◌, ◌+◌, ◌*◌, ℕ, ℤ, pos, List, ◌++◌, length, map, take, drop, get_or, Option, Some, None}
-use Rattle.std.specs.List.{All, flat_map, range_with_len}
+use Rattle.std.specs.Prelude.{◌≡◌, ◌+◌, ◌*◌, ℕ, ℤ, pos, List, ◌++◌, length, drop, get_or, Option, Some, None}
+use Rattle.std.specs.List.{flat_map}
 use Rattle.ascii_grid.specs.Text.{head_text, row_text, AreRows}
 use Rattle.ascii_grid.specs.Row.{row_of}
 use Rattle.write_back.specs.declared.rows.GridForm.{GridForm}
@@ -28,7 +28,3 @@ grid_at g bytes x y =
 abbrev pub grid_in : GridForm → Option (List ℕ) → ℕ → ℕ → ℤ
 grid_in g None x y = pos 0
 grid_in g (Some bytes) x y = grid_at g bytes x y
-
--- samples cut into n rows of w
-abbrev pub rows_in : ℕ → ℕ → List ℤ → List (List ℤ)
-rows_in w n samples = map (λ r. take w (drop (r * w) samples)) (range_with_len 0 n)

@@ -11,7 +11,10 @@ pub mod Windows
 pub mod State
 pub mod Pieces
 -- What private clauses, views and proofs speak of.
+pub mod Drafts
 pub mod Seen
 pub mod Served
+pub mod Spots
+pub mod Stores
 pub mod Turned
 pub mod Unwritten

@@ -1,19 +1,16 @@
 -- What a plan writes.
-use Rattle.std.specs.Prelude.{◌≡◌, ℕ, List, [], Option, Some, None, IsSome, option_map}
+use Rattle.std.specs.Prelude.{◌≡◌, ℕ, List, Option, Some, None, option_map}
 use Rattle.dted_records.specs.Head as cells
 use Rattle.dted_records.specs.Text.{head_text}
 use Rattle.outside.specs.Names.{extension_of}
-use Rattle.outside.specs.Outside.{Files}
-use Rattle.block_cache.specs.Entries.{pool_view}
 use Rattle.translate_plan.specs.declared.options.Driver.{Driver}
 use Rattle.translate_plan.specs.declared.options.Driver.TheVariants.{EHdr, SrtmHgt, AaiGrid, Vrt}
 use Rattle.translate_plan.specs.declared.options.Driver.TheVariants as drivers
 use Rattle.translate_plan.specs.Options.{driver_for}
 use Rattle.translate_plan.specs.Fits.{cell_in}
 use Rattle.translate_plan.specs.Plan.{Planned, first_band, raw_head}
-use Rattle.write_back.specs.Columns.{cell_of}
-use Rattle.write_back.specs.View.{Output, Blocks, Rows, TargetView, IsZero}
-use Rattle.write_back.specs.Files.{IsTarget}
+use Rattle.write_back.specs.Columns.{cell_with_front}
+use Rattle.write_back.specs.View.{Output, Blocks, Rows}
 use Rattle.write_back.specs.declared.forms.Writer.TheVariants as writers
 use Rattle.write_back.specs.declared.rows.GridForm.{GridForm}
 
@@ -24,7 +21,7 @@ IsNamedFor p name = option_map driver_for (extension_of name) ≡ Some p.driver
 -- the cell of a head, with the head as it is written in front
 abbrev pub cell_output : Option cells.Head → Option Output
 cell_output None = None
-cell_output (Some h) = Some (Blocks (writers.Dted (cell_of h (head_text h))))
+cell_output (Some h) = Some (Blocks (writers.Dted (cell_with_front h (head_text h))))
 
 -- a grid of a plan's size and geotransform, with the NODATA of its band
 abbrev pub grid_form : Planned → GridForm
@@ -46,12 +43,3 @@ output_of p = output_by p.driver p
 abbrev pub room_of : Output → ℕ → ℕ
 room_of (Blocks w) capacity = capacity
 room_of (Rows g) capacity = 0
-
--- a new target of a name: no block is held, no line is written, and where the folder tells its names all samples are 0
-pub record IsNew (told told' : Option Files) (named : List ℕ) (capacity : ℕ) (t : TargetView) : Type 0 where
-  pub name : t.name ≡ named
-  pub pool : t.pool ≡ pool_view [] (room_of t.output capacity)
-  pub lines : t.lines ≡ 0
-  pub fault : t.fault ≡ None
-  pub target : IsTarget told' t
-  pub zeros : IsSome told → IsZero t

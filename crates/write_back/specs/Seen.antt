@@ -5,7 +5,7 @@ use Rattle.block_cache.specs.Entries.{pool_view}
 use Rattle.write_back.specs.declared.sheet.Kind.{Kind}
 use Rattle.write_back.specs.declared.sheet.Kind.TheVariants as kinds
 use Rattle.write_back.specs.declared.store.Store.{Store}
-use Rattle.write_back.specs.State.{StoreState, store_state}
+use Rattle.write_back.specs.Stores.{StoreState, store_state}
 use Rattle.write_back.specs.Unwritten.{known}
 use Rattle.write_back.specs.View.{Blocks, Rows, SheetView}
 

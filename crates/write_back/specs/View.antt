@@ -1,6 +1,5 @@
 -- What a contract sees of an output that is being written.
-use Rattle.std.specs.Prelude.{◌≡◌, ◌<◌, ◌≤◌, ◌+◌, ◌-◌, ◌*◌, min, ℕ, ℤ, pos, Bool, List, Option, Some, None, IsSome}
-use Rattle.std.specs.Prelude.{true}
+use Rattle.std.specs.Prelude.{◌≡◌, ◌<◌, ◌≤◌, ◌+◌, ℕ, ℤ, pos, Bool, List, Option, Some, None, IsSome, true}
 use Rattle.std.specs.List.{All}
 use Rattle.geotransform.specs.declared.types.Rect.{Rect}
 use Rattle.outside.specs.Outside.{Files}
@@ -8,7 +7,6 @@ use Rattle.ascii_grid.specs.Values.{is_value}
 use Rattle.block_cache.specs.Entries.{PoolView}
 use Rattle.write_back.specs.declared.fault.TargetFault.{TargetFault}
 use Rattle.write_back.specs.declared.forms.Writer.{Writer}
-use Rattle.write_back.specs.declared.forms.Writer.TheVariants.{Raw, Hgt, Dted}
 use Rattle.write_back.specs.declared.rows.GridForm.{GridForm}
 use Rattle.write_back.specs.Forms.{band_total, holds, most_calls, column_total, line_total, pixel_sample}
 use Rattle.write_back.specs.Grids.{HasRows, grid_in}
@@ -70,9 +68,9 @@ columns_of (Blocks w) = column_total w
 columns_of (Rows g) = g.size.w
 
 -- how many lines an output has
-abbrev pub rows_of : Output → ℕ
-rows_of (Blocks w) = line_total w
-rows_of (Rows g) = g.size.h
+abbrev pub line_count_of : Output → ℕ
+line_count_of (Blocks w) = line_total w
+line_count_of (Rows g) = g.size.h
 
 -- a sample can be written
 abbrev pub is_writable : Output → ℤ → Bool
@@ -87,7 +85,7 @@ AreWritable o samples = All (λ n. is_writable o n ≡ true) samples
 pub record IsIn (o : Output) (k x y : ℕ) : Type 0 where
   pub band : k < bands_of o
   pub column : x < columns_of o
-  pub line : y < rows_of o
+  pub line : y < line_count_of o
 
 -- a window of a grid is whole lines, the first of which is the next that is written
 abbrev pub IsNext : Output → ℕ → Rect → Type 0
@@ -152,37 +150,6 @@ pub record Meets (o : Output) (rect : Rect) (old new : SheetView) : Type 0 where
 abbrev pub lines_after : Output → ℕ → Rect → ℕ
 lines_after (Blocks w) lines rect = lines
 lines_after (Rows g) lines rect = lines + rect.h
-
--- what a window does to an output's data and its folder, whatever it answers
-pub record Keeps (rect : Rect) (old new : SheetView) (told told' : Option Files) (r r' c c' w w' : ℕ) : Type 0 where
-  pub sound : IsSoundOn old.output new
-  pub output : new.output ≡ old.output
-  pub name : new.name ≡ old.name
-  pub capacity : new.pool.capacity ≡ old.pool.capacity
-  pub names : told' ≡ told
-  pub reads : r' ≡ r
-  pub counted : w ≤ w'
-  pub few : w' ≤ w + window_blocks old.output rect
-  pub none : IsPooled old.output → all_blocks old.output ≤ old.pool.capacity → w' ≡ w
-  pub calls : c' ≤ c + calls_of old.output * (w' - w)
-
--- what a window does besides where it answers Ok
-pub record Puts (band : ℕ) (rect : Rect) (samples : List ℤ) (told told' : Option Files) (old new : SheetView) : Type 0
-  where
-    pub right : IsRightOn old.output told' new
-    pub overlay : IsSome told → IsOverlaid (IsIn old.output) band rect samples (shown_on old.output old.pool old.draft)
-        (shown_on old.output new.pool new.draft)
-    pub met : IsSome told → Meets old.output rect old new
-    pub lines : new.lines ≡ lines_after old.output old.lines rect
-
--- what the last writing does, whatever it answers
-pub record Finishes (old new : SheetView) (told told' : Option Files) (r r' c c' w w' : ℕ) : Type 0 where
-  pub name : new.name ≡ old.name
-  pub names : told' ≡ told
-  pub reads : r' ≡ r
-  pub counted : w ≤ w'
-  pub few : w' ≤ w + min old.pool.capacity (all_blocks old.output)
-  pub calls : c' ≤ c + calls_of old.output * (w' - w)
 
 -- each sample is 0
 abbrev pub IsZero : TargetView → Type 0

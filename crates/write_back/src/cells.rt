@@ -10,7 +10,7 @@ ghost use Rattle.dted_records.specs.Places.{needed_of, record_len, record_of};
 ghost use Rattle.dted_records.specs.Records.{column_of};
 ghost use Rattle.lists_and_answers.specs.Places.{StandsAt};
 ghost use Rattle.dted_records.specs.Written.{record_bytes};
-ghost use Rattle.write_back.specs.Columns.{cell_of, is_elevation};
+ghost use Rattle.write_back.specs.Columns.{cell_with_front, is_elevation};
 ghost use Rattle.write_back.specs.Pieces.{AreBytes};
 
 use crate::TargetFault;
@@ -49,7 +49,7 @@ impl ColumnWriter {
         front: Vec<u8>,
     ) -> Result<ColumnWriter, AllocError>
         requires front { vec_len front ≡ record_of head.now 0 }
-        ensures cell { IfOk result (λ writer. writer ≡ cell_of head.now (vec_items front)) }
+        ensures cell { IfOk result (λ writer. writer ≡ cell_with_front head.now (vec_items front)) }
     {
         let bytes = vec![in alloc; 0u8; head.record_len()]?;
         Ok(ColumnWriter {

@@ -6,7 +6,8 @@ ghost use Rattle.translate_plan.specs.declared.options.Driver.TheVariants.{AaiGr
 ghost use Rattle.write_back.specs.declared.fault.TargetFault.{TargetFault};
 ghost use Rattle.write_back.specs.View.{IsZero};
 ghost use Rattle.write_back.specs.Files.{IsTarget};
-ghost use Rattle.write_back.specs.Plans.{output_of, room_of, IsNamedFor, IsNew};
+ghost use Rattle.write_back.specs.Plans.{output_of, room_of, IsNamedFor};
+ghost use Rattle.write_back.specs.Drafts.{IsNew};
 ghost use Rattle.write_back.specs.Served.{IsLeftIn};
 ghost use Rattle.band_blocks.specs.Blocks.{most_blocks};
 

@@ -3,7 +3,8 @@ ghost use Rattle.std.specs.Prelude.{◌≡◌, ◌<◌, ◌≤◌, ◌+◌, ◌-
 ghost use Rattle.outside.specs.Causes.{HasCause, Rose};
 ghost use Rattle.outside.specs.Outside.{Files};
 ghost use Rattle.write_back.specs.Pieces.{AreBytes};
-ghost use Rattle.write_back.specs.Files.{ArePut, IsHeaderPut, files_with, header_state, published_by};
+ghost use Rattle.write_back.specs.Files.{header_state};
+ghost use Rattle.write_back.specs.Drafts.{ArePut, IsHeaderPut, files_with, published_by};
 
 use crate::{CloseFault, TargetFault};
 use outside::{Folder, Name, WriteFault};

@@ -1,10 +1,11 @@
 // What differs between the outputs that are written through a pool of blocks.
 ghost use Rattle.std.specs.Prelude.{◌≡◌, ◌<◌, ◌≤◌, ◌+◌, ◌*◌, ◌^◌, ℕ, List, length, Some, OnOk};
 ghost use Rattle.outside.specs.Causes.{HasCause};
-ghost use Rattle.write_back.specs.Forms.{band_total, cut_of, line_total, holds, band_places_of, most_calls, needed_of};
-ghost use Rattle.write_back.specs.Forms.{column_total, IsFormed};
-ghost use Rattle.write_back.specs.Overlay.{held_in, line_key, IsBlockWritten, IsLine};
-ghost use Rattle.write_back.specs.Pieces.{most_spots};
+ghost use Rattle.write_back.specs.Forms.{band_total, cut_of, line_total, holds, most_calls, needed_of, column_total};
+ghost use Rattle.write_back.specs.Forms.{IsFormed};
+ghost use Rattle.write_back.specs.Spots.{band_places_of, most_spots};
+ghost use Rattle.write_back.specs.Overlay.{held_in, line_key, IsLine};
+ghost use Rattle.write_back.specs.Stores.{IsBlockWritten};
 
 use crate::TargetFault;
 use crate::cells::ColumnWriter;

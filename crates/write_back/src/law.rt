@@ -14,7 +14,7 @@ ghost use Rattle.outside.specs.Outside.{Files};
 ghost use Rattle.write_back.specs.Files.{files_of, with_files, IsTight};
 ghost use Rattle.write_back.specs.Plans.{output_of, IsNamedFor};
 ghost use Rattle.write_back.specs.Reading.{AreSamplesOf, HasFiles, IsDecoded, IsReadable};
-ghost use Rattle.write_back.specs.View.{Output, bands_of, columns_of, is_writable, rows_of, IsIn};
+ghost use Rattle.write_back.specs.View.{Output, bands_of, columns_of, is_writable, line_count_of, IsIn};
 ghost use Rattle.write_back.specs.Windows.{Window, sample_of_last, AreWritten};
 
 /// In raw data of a plain head, as translations write it, nothing but samples stands.
@@ -28,7 +28,7 @@ pub fn outputs_have_sizes()
     ensures some { (p : Planned) → IsPlan p → p.driver ≢ Vrt → IsSome (output_of p) }
     ensures bands { (p : Planned) (o : Output) → IsPlan p → output_of p ≡ Some o → bands_of o ≡ length p.bands }
     ensures columns { (p : Planned) (o : Output) → IsPlan p → output_of p ≡ Some o → columns_of o ≡ p.size.w }
-    ensures lines { (p : Planned) (o : Output) → IsPlan p → output_of p ≡ Some o → rows_of o ≡ p.size.h }
+    ensures lines { (p : Planned) (o : Output) → IsPlan p → output_of p ≡ Some o → line_count_of o ≡ p.size.h }
 {}
 
 /// An output can hold each sample of a band's type, where in a cell it is an elevation that records hold; so it can

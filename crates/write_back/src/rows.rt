@@ -5,7 +5,8 @@ ghost use Rattle.outside.specs.Causes.{HasCause};
 ghost use Rattle.outside.specs.Outside.{Appended};
 ghost use Rattle.ascii_grid.specs.Text.{row_text};
 ghost use Rattle.ascii_grid.specs.Values.{is_value};
-ghost use Rattle.write_back.specs.Grids.{HasRows, rows_in};
+ghost use Rattle.write_back.specs.Grids.{HasRows};
+ghost use Rattle.write_back.specs.Spots.{cut_rows};
 
 use crate::TargetFault;
 use ascii_grid::write_row;
@@ -97,7 +98,7 @@ impl<F: Folder> RowStore<F> {
         ensures most { self.new.lines ≤ self.old.lines + rect.h }
         ensures told { OnOk result ((rows : List (List ℤ)) → HasRows self.old.form self.old.lines
             (F.draft_bytes self.old.draft) rows → HasRows self.old.form self.new.lines (F.draft_bytes self.new.draft)
-            (rows ++ rows_in rect.w rect.h samples.now)) }
+            (rows ++ cut_rows rect.w rect.h samples.now)) }
         ensures name { F.draft_name self.new.draft ≡ F.draft_name self.old.draft }
         ensures names { F.names folder.new ≡ F.names folder.old }
         ensures reads { F.read_calls folder.new ≡ F.read_calls folder.old }

@@ -2,10 +2,12 @@
 ghost use Rattle.std.specs.Prelude.{◌≡◌, ◌<◌, ◌≤◌, ◌+◌, ◌*◌, ℕ, List, length, Some, true, OnOk};
 ghost use Rattle.std.specs.List.{list_all};
 ghost use Rattle.outside.specs.Causes.{HasCause};
-ghost use Rattle.write_back.specs.View.{bands_of, columns_of, is_writable, rows_of, AreWritable, IsNext, IsSoundOn};
-ghost use Rattle.write_back.specs.View.{IsRightOn, Puts};
-ghost use Rattle.write_back.specs.Served.{FinishesIn, KeepsIn};
-ghost use Rattle.write_back.specs.Files.{HasBytes, IsForm};
+ghost use Rattle.write_back.specs.View.{bands_of, columns_of, is_writable, line_count_of, AreWritable, IsNext};
+ghost use Rattle.write_back.specs.View.{IsSoundOn};
+ghost use Rattle.write_back.specs.View.{IsRightOn};
+ghost use Rattle.write_back.specs.Served.{PutsWindow, FinishesIn, KeepsIn};
+ghost use Rattle.write_back.specs.Files.{IsForm};
+ghost use Rattle.write_back.specs.Drafts.{HasBytes};
 
 use crate::TargetFault;
 use crate::rows::RowStore;
@@ -53,7 +55,7 @@ impl<F: Folder> Sheet<F> {
     // The columns and the lines.
     pub(crate) fn size(&self) -> Size
         ensures columns { result.w ≡ columns_of self.now.output }
-        ensures rows { result.h ≡ rows_of self.now.output }
+        ensures rows { result.h ≡ line_count_of self.now.output }
     {
         match &self.kind {
             Kind::Blocks(store) => store.writer.size(),
@@ -109,12 +111,12 @@ impl<F: Folder> Sheet<F> {
         requires right { IsRightOn self.old.output (F.names folder.old) self.old }
         requires band { band < bands_of self.old.output }
         requires across { rect.x + rect.w ≤ columns_of self.old.output }
-        requires down { rect.y + rect.h ≤ rows_of self.old.output }
+        requires down { rect.y + rect.h ≤ line_count_of self.old.output }
         requires size { length samples.now ≡ rect.w * rect.h }
         requires range { AreWritable self.old.output samples.now }
         requires next { IsNext self.old.output self.old.lines rect }
         ensures kept { KeepsIn F.Folder rect folder.old self.old writes.old folder.new self.new writes.new }
-        ensures put { OnOk result (Puts band rect samples.now (F.names folder.old) (F.names folder.new) self.old
+        ensures put { OnOk result (PutsWindow band rect samples.now (F.names folder.old) (F.names folder.new) self.old
             self.new) }
         ensures cause { HasCause TargetFault.FolderFault (F.faults folder.old) (F.faults folder.new) result }
     {
@@ -141,12 +143,12 @@ impl<F: Folder> Sheet<F> {
         requires right { IsRightOn self.old.output (F.names folder.old) self.old }
         requires band { band < bands_of self.old.output }
         requires across { rect.x + rect.w ≤ columns_of self.old.output }
-        requires down { rect.y + rect.h ≤ rows_of self.old.output }
+        requires down { rect.y + rect.h ≤ line_count_of self.old.output }
         requires size { length samples.now ≡ rect.w * rect.h }
         requires range { AreWritable self.old.output samples.now }
         requires next { IsNext self.old.output self.old.lines rect }
         ensures kept { KeepsIn F.Folder rect folder.old self.old writes.old folder.new self.new writes.new }
-        ensures put { OnOk result (Puts band rect samples.now (F.names folder.old) (F.names folder.new) self.old
+        ensures put { OnOk result (PutsWindow band rect samples.now (F.names folder.old) (F.names folder.new) self.old
             self.new) }
         ensures cause { HasCause TargetFault.FolderFault (F.faults folder.old) (F.faults folder.new) result }
     {

@@ -7,10 +7,10 @@ ghost use Rattle.band_blocks.specs.Spread.{IsSpread};
 ghost use Rattle.block_cache.specs.Entries.{held_at};
 ghost use Rattle.write_back.specs.Forms.{band_total, cut_of, needed_of, most_calls, AreHeld, IsFormed, column_total};
 ghost use Rattle.write_back.specs.Forms.{line_total};
-ghost use Rattle.write_back.specs.Overlay.{IsLine, IsPut, IsWindow, IsLineSet, AreSame, HoldsDirty, IsBlockWritten};
-ghost use Rattle.write_back.specs.Overlay.{held_in, line_key};
+ghost use Rattle.write_back.specs.Overlay.{IsLine, HoldsDirty, held_in, line_key};
+ghost use Rattle.write_back.specs.Stores.{IsPut, IsWindow, IsLineSet, AreSame, IsBlockWritten, AreMet, Changes, Serves};
 ghost use Rattle.write_back.specs.Seen.{known_in, state_of};
-ghost use Rattle.write_back.specs.State.{AreMet, Changes, IsSound, Serves, lines_met};
+ghost use Rattle.write_back.specs.State.{IsSound, lines_met};
 
 use crate::TargetFault;
 use crate::forms::Writer;

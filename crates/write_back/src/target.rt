@@ -11,12 +11,12 @@ ghost use Rattle.dted_records.specs.Places.{record_of};
 ghost use Rattle.block_cache.specs.Entries.{pool_view, IsPool};
 ghost use Rattle.write_back.specs.declared.forms.Writer.TheVariants.{Raw, Hgt, Dted};
 ghost use Rattle.write_back.specs.declared.fault.TargetFault.{TargetFault};
-ghost use Rattle.write_back.specs.Columns.{cell_of};
+ghost use Rattle.write_back.specs.Columns.{cell_with_front};
 ghost use Rattle.write_back.specs.View.{Blocks, Rows, all_blocks, bands_of, window_blocks, calls_of, columns_of};
-ghost use Rattle.write_back.specs.View.{is_writable, lines_after, rows_of, AreWritable, IsNext, IsPooled};
+ghost use Rattle.write_back.specs.View.{is_writable, lines_after, line_count_of, AreWritable, IsNext, IsPooled};
 ghost use Rattle.write_back.specs.View.{MeetsAll, Shows};
-ghost use Rattle.write_back.specs.Files.{target_files, AreRawDrafts, IsTarget, IsTight, Publishes};
-ghost use Rattle.write_back.specs.Plans.{IsNew};
+ghost use Rattle.write_back.specs.Files.{target_files, IsTarget, IsTight, Publishes};
+ghost use Rattle.write_back.specs.Drafts.{AreRawDrafts, IsNew};
 ghost use Rattle.write_back.specs.Served.{IsLeftIn};
 ghost use Rattle.band_blocks.specs.Blocks.{most_blocks};
 
@@ -203,7 +203,7 @@ impl<F: Folder> Target<F> {
         requires some { 1 ≤ capacity }
         requires few { capacity ≤ most_blocks }
         requires front { vec_len front ≡ record_of head.now 0 }
-        ensures output { IfOk result (λ t. t.output ≡ Blocks (Dted (cell_of head.now (vec_items front)))) }
+        ensures output { IfOk result (λ t. t.output ≡ Blocks (Dted (cell_with_front head.now (vec_items front)))) }
         ensures made { IfOk result (IsNew (F.names folder.old) (F.names folder.new) name.now capacity) }
         ensures kept { IsLeftIn F.Folder folder.old folder.new }
         ensures cause { HasCause TargetFault.FolderFault (F.faults folder.old) (F.faults folder.new) result }
@@ -274,7 +274,7 @@ impl<F: Folder> Target<F> {
     /// The columns and the lines.
     pub fn size(&self) -> Size
         ensures columns { result.w ≡ columns_of self.now.output }
-        ensures rows { result.h ≡ rows_of self.now.output }
+        ensures rows { result.h ≡ line_count_of self.now.output }
     {
         self.sheet.size()
     }
@@ -310,7 +310,7 @@ impl<F: Folder> Target<F> {
         requires target { IsTarget (F.names folder.old) self.old }
         requires band { band < bands_of self.old.output }
         requires across { rect.x + rect.w ≤ columns_of self.old.output }
-        requires down { rect.y + rect.h ≤ rows_of self.old.output }
+        requires down { rect.y + rect.h ≤ line_count_of self.old.output }
         requires size { length samples.now ≡ rect.w * rect.h }
         requires range { AreWritable self.old.output samples.now }
         requires next { self.old.fault ≡ None → IsNext self.old.output self.old.lines rect }

@@ -7,7 +7,7 @@ use Rattle.std.proofs.lemmas.List.{drop-take, take-take, length-take}
 use Rattle.lists_and_answers.specs.Answers.{◌>>=◌, wants}
 use Rattle.dted_records.specs.declared.head.DtedFault.{DtedFault}
 use Rattle.dted_records.specs.declared.head.DtedFault.TheVariants.{NotDted, Short}
-use Rattle.dted_records.specs.Head.{Head, part, begins, count_in, angle_in, east, west, north, south, is_leading, leading, fields_in, head_in, dted_head}
+use Rattle.dted_records.specs.Head.{Head, part, begins, positive_in, angle_in, east, west, north, south, is_leading, leading, fields_in, head_in, dted_head}
 use Rattle.dted_records.proofs.Front.{head_same}
 
 long_same : (k n : ℕ) (b : List ℕ) → k ≤ n → nat_le k (length (take n b)) ≡ nat_le k (length b)
@@ -56,7 +56,7 @@ fields_by skip (Ok lon) (Ok lat) (Ok i) (Ok j) (Ok lines) (Ok points) h is = ap 
 
 fields_skip : (skip : ℕ) (label : List ℕ) (h : Head) → fields_in skip label ≡ Ok h → skip ≡ h.skip
 unfolding fields_in
-fields_skip skip label h is = fields_by skip (angle_in east west 180 (part 4 8 label)) (angle_in north south 90 (part 12 8 label)) (count_in (part 20 4 label)) (count_in (part 24 4 label)) (count_in (part 47 4 label)) (count_in (part 51 4 label)) h is
+fields_skip skip label h is = fields_by skip (angle_in east west 180 (part 4 8 label)) (angle_in north south 90 (part 12 8 label)) (positive_in (part 20 4 label)) (positive_in (part 24 4 label)) (positive_in (part 47 4 label)) (positive_in (part 51 4 label)) h is
 
 -- the head is that of the fields
 head_by : (a b : Result (Unit {0}) DtedFault) (q : Result Head DtedFault) (c d e : Result (Unit {0}) DtedFault) (h : Head) → (a >>= λ some. b >>= λ uhl. q >>= λ head. c >>= λ whole. d >>= λ dsi. e >>= λ acc. Ok head) ≡ Ok h → q ≡ Ok h

@@ -11,7 +11,7 @@ use Rattle.byteorder.specs.Numbers.{length-bytes_high_first}
 use Rattle.outside.specs.Outside.{put_at}
 use Rattle.dted_records.specs.Head.{Head, dted_head}
 use Rattle.dted_records.specs.Places.{record_len, record_of}
-use Rattle.dted_records.specs.Records.{elevation, point_of, column_of, dted_at}
+use Rattle.dted_records.specs.Records.{elevation, point_place_of, column_of, dted_at}
 use Rattle.dted_records.specs.Written.{elevation_bytes, front_bytes, points_bytes, summed_bytes, record_bytes}
 use Rattle.dted_records.proofs.Columns.{column_stands}
 use Rattle.dted_records.proofs.Encoded.{elevation_bytes_len, record_again}
@@ -67,7 +67,7 @@ module _ (h : Head) (file : List ℕ) (x : ℕ) (samples : List ℤ) (put : IsRe
       (cases_lt u x)
 
   pub record_others : (u v : ℕ) → u ≢ x → v < h.points → dted_at h (put_at (record_of h x) (record_bytes x samples) file) u v ≡ dted_at h file u v
-  record_others u v other less = ap (λ (l : List ℕ). elevation (big_number 2 l)) (part_beside file (record_bytes x samples) (record_of h x) within (record_of h u + point_of h v) 2 (beside u (record_of h u + point_of h v) other (omega arith) (omega arith)))
+  record_others u v other less = ap (λ (l : List ℕ). elevation (big_number 2 l)) (part_beside file (record_bytes x samples) (record_of h x) within (record_of h u + point_place_of h v) 2 (beside u (record_of h u + point_place_of h v) other (omega arith) (omega arith)))
 
   pub front_stays : take (record_of h 0) (put_at (record_of h x) (record_bytes x samples) file) ≡ take (record_of h 0) file
   front_stays = part_beside file (record_bytes x samples) (record_of h x) within 0 (record_of h 0) (inl (omega arith))

@@ -3,7 +3,7 @@ use Rattle.std.specs.Prelude.{neg_ℤ}
 use Rattle.lists_and_answers.specs.Texts.{is_white}
 use mir.Syntax.{w32}
 use Rattle.geotransform.specs.Decimal.{number}
-use Rattle.ascii_grid.specs.Values.{has_value}
+use Rattle.ascii_grid.specs.Scanning.{has_value}
 use Rattle.ascii_grid.specs.Row.{value_or_zero}
 use Rattle.ascii_grid.proofs.Fronts.{behind_minus, minus_dark, minus_has, minus_value}
 use Rattle.ascii_grid.proofs.values.minus_at.Goals as goal

@@ -1,7 +1,8 @@
 use Rattle.std.proofs.Common.{◌≡◌, ◌∙◌, ◌+◌, ap, sym, subst, ℤ, to_z, drop, FitsSigned}
 use Rattle.std.specs.Int.{w128}
 use Rattle.std.proofs.lemmas.Int.{to_z-of_z}
-use Rattle.buildvrt.specs.Grids.{less_of, least_from, IsMeasure}
+use Rattle.buildvrt.specs.Grids.{less_of, least_from}
+use Rattle.buildvrt.specs.Limits.{IsMeasure}
 use Rattle.buildvrt.proofs.Measures.{least_next, less_rules}
 use Rattle.buildvrt.proofs.grid.least_from.Goals as goal
 

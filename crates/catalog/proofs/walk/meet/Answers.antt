@@ -1,7 +1,7 @@
 use Rattle.std.proofs.Common.{◌≡◌, ◌∙◌, inl, ap, sym, None, Ok, rules}
 use Rattle.catalog.specs.declared.faults.WalkFault.TheVariants.{Memory}
 use Rattle.catalog.specs.declared.kind.Kind.TheVariants as kinds
-use Rattle.catalog.specs.Walk.{number_of}
+use Rattle.catalog.specs.Walk.{dataset_number_in}
 use Rattle.catalog.proofs.Listings.{err_is}
 use Rattle.catalog.proofs.Meetings.{from_memory, visits_plain, visits_unknown, visits_known, visits_deep, no_some}
 use Rattle.catalog.proofs.Meets.{kind_met}
@@ -35,6 +35,6 @@ returns-in_err-try_clone g c =
 
 pub returns-then-eq : goal.returns-then-eq
 returns-then-eq g c =
-    let none : number_of c.args.met.now.datasets c.args.name.now ≡ None = sym c.number.ensures.number ∙ no_some c.number.result c.in_default.not-Some in
+    let none : dataset_number_in c.args.met.now.datasets c.args.name.now ≡ None = sym c.number.ensures.number ∙ no_some c.number.result c.in_default.not-Some in
     let vrt : c.in_ok-kind.kind ≡ kinds.Vrt = search rules in
     record { meets = rw c.in_ok-try_clone.ensures.same (visits_deep c.args.verify c.args.room c.args.name.now _ c.args.met.now none (c.in_ok-kind.ensures.kind ∙ ap (λ k. Ok k) vrt) c.if-room-eq0.true) }

@@ -1,5 +1,6 @@
 use Rattle.std.proofs.Common.{◌≡◌, drop, map}
-use Rattle.command_words.specs.Options.{named, option_in}
+use Rattle.command_words.specs.Options.{option_in}
+use Rattle.command_words.specs.Gathered.{named}
 use Rattle.command_words.proofs.options.option_in.Given as goal
 
 abbrev pub invariant-loop-name : goal.invariant-loop-name

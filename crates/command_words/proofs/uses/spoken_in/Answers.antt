@@ -1,5 +1,5 @@
 use Rattle.std.proofs.Common.{◌≡◌, ◌∙◌, ◌+◌, ap, length, map, drop, string_bytes, arith}
-use Rattle.command_words.specs.Uses.{with_said}
+use Rattle.command_words.specs.Gathered.{with_said}
 use Rattle.command_words.specs.Options.{option_of}
 use Rattle.command_words.proofs.Told.{next_word, value_step, use_step}
 use Rattle.command_words.proofs.uses.spoken_in.Goals.{then-taken-gt0, else-taken-gt0+in_ok-said+in_ok-all}

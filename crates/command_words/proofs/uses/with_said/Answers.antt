@@ -1,6 +1,6 @@
 use Rattle.std.proofs.Common.{sym, subst, Ok}
 use Rattle.lists_and_answers.specs.Answers.{Gives}
-use Rattle.command_words.specs.Uses.{with_said}
+use Rattle.command_words.specs.Gathered.{with_said}
 use Rattle.command_words.specs.Words.{IsMemory}
 use Rattle.command_words.proofs.uses.with_said.Goals as goal
 

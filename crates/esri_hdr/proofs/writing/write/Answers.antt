@@ -1,5 +1,5 @@
 use Rattle.std.proofs.Common.{◌∙◌, ap, ◌++◌}
-use Rattle.esri_hdr.specs.Text.{hdr_text, text_of, layout_fields, sample_fields, row_fields, nodata_fields, geo_fields}
+use Rattle.esri_hdr.specs.Text.{hdr_text, lines_text_of, layout_fields, sample_fields, row_fields, nodata_fields, geo_fields}
 use Rattle.esri_hdr.proofs.Writes.{all_lines, keeps_after, on_err_any}
 use Rattle.esri_hdr.proofs.writing.write.Goals as goal
 
@@ -22,4 +22,4 @@ pub returns-clause-ok : goal.returns-clause-ok
 unfolding hdr_text
 returns-clause-ok c =
     let h = all_lines _ _ _ _ _ _ _ _ _ _ _ c.in_ok-push_layout.ensures.ok c.in_ok-push_samples.ensures.ok c.in_ok-push_rows.ensures.ok c.in_ok-push_nodata.ensures.ok c.in_ok-push_geo.ensures.ok in
-    h.lines ∙ ap (λ x. c.args.out.now.items ++ text_of (layout_fields c.args.head.now ++ (sample_fields c.args.head.now ++ (row_fields c.args.head.now ++ (nodata_fields x.nodata ++ geo_fields x.geo))))) c.head.view_is
+    h.lines ∙ ap (λ x. c.args.out.now.items ++ lines_text_of (layout_fields c.args.head.now ++ (sample_fields c.args.head.now ++ (row_fields c.args.head.now ++ (nodata_fields x.nodata ++ geo_fields x.geo))))) c.head.view_is

@@ -3,9 +3,9 @@ use Rattle.std.specs.Prelude.{is_some}
 use Rattle.std.proofs.lemmas.Grind.{common_steps}
 use Rattle.input_points.specs.Entries.{entries}
 use Rattle.error_lines.specs.declared.faults.Fault.TheVariants.{Memory}
-use Rattle.gdal_cli.specs.Input.{StopsBehind}
+use Rattle.gdal_cli.specs.Run.{StopsBehind}
 use Rattle.gdal_cli.specs.Location.{answers, point_text}
-use Rattle.gdal_cli.specs.Run.{Ends}
+use Rattle.gdal_cli.specs.Jobs.{Ends}
 use Rattle.gdal_cli.proofs.Causes.{readings_of_lines}
 use Rattle.gdal_cli.proofs.Changed.{puts_unchanged}
 use Rattle.gdal_cli.proofs.Ended.{err_is, ends_outside, equal_put, lines_put, unput}

@@ -4,7 +4,8 @@ use Rattle.error_lines.specs.declared.faults.Fault.{Fault}
 use Rattle.error_lines.specs.Faults.{fault_of, report_fault_of}
 use Rattle.command_words.specs.declared.command.Job.TheVariants.{Info}
 use Rattle.translation_runs.specs.Ends.{ended}
-use Rattle.gdal_cli.specs.Run.{Ends, MayEnd, IsRefusal}
+use Rattle.gdal_cli.specs.Run.{MayEnd, IsRefusal}
+use Rattle.gdal_cli.specs.Jobs.{Ends}
 use Rattle.gdal_cli.specs.Work.{info_judged, carried_out}
 use Rattle.gdal_cli.proofs.Causes.{walk_may, report_may, report_refuses}
 use Rattle.gdal_cli.proofs.Ended.{err_is, outside_report, info_refused, info_put}

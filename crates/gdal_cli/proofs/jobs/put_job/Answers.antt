@@ -4,7 +4,8 @@ use Rattle.command_words.specs.declared.command.Job.{Job}
 use Rattle.gdal_cli.specs.Published.{IsNamedJob}
 use Rattle.error_lines.specs.Steps.{Step, AreWarned}
 use Rattle.translation_runs.specs.Ends.{ended}
-use Rattle.gdal_cli.specs.Run.{is_quiet, makes_rasters, names_published, reads_input, warns_of_inputs}
+use Rattle.gdal_cli.specs.Run.{makes_rasters, names_published, reads_input, warns_of_inputs}
+use Rattle.gdal_cli.specs.Jobs.{is_quiet}
 use Rattle.gdal_cli.specs.Work.{judged_by, carried_out}
 use Rattle.gdal_cli.proofs.Ended.{stops_same}
 use Rattle.gdal_cli.proofs.Pieces.{always_ok}

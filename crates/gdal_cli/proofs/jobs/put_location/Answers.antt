@@ -12,7 +12,8 @@ use Rattle.error_lines.specs.Faults.{fault_of, IsOutside, OwnsFault}
 use Rattle.command_words.specs.declared.command.Job.TheVariants.{Locate}
 use Rattle.gdal_cli.specs.Location.{asked_in, answers, point_text}
 use Rattle.translation_runs.specs.Ends.{ended}
-use Rattle.gdal_cli.specs.Run.{Ends, MayEnd, RefusesKind}
+use Rattle.gdal_cli.specs.Run.{MayEnd}
+use Rattle.gdal_cli.specs.Jobs.{Ends, RefusesKind}
 use Rattle.gdal_cli.specs.Work.{Work, location_judged, carried_out}
 use Rattle.gdal_cli.proofs.Causes.{walk_may, asked_may, answers_may, lines_refuse}
 use Rattle.translation_runs.proofs.Ended.{has_changed, no_change}

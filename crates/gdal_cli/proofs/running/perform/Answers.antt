@@ -6,7 +6,8 @@ use Rattle.command_words.specs.declared.command.Command.{Command}
 use Rattle.command_words.specs.declared.spoken.WordFault.{WordFault}
 use Rattle.translation_runs.specs.Ends.{ended}
 use Rattle.error_lines.specs.Faults.{IsOutside}
-use Rattle.gdal_cli.specs.Run.{MayEnd, MayWarn, words_make_rasters, words_read_input, words_warn}
+use Rattle.gdal_cli.specs.Run.{MayEnd, words_make_rasters, words_read_input, words_warn}
+use Rattle.gdal_cli.specs.Jobs.{MayWarn}
 use Rattle.error_lines.specs.Steps.{Step, AreWarned, GoesWarning}
 use Rattle.command_words.specs.Words.{words_of}
 use Rattle.gdal_cli.specs.Work.{Work, judged_by, carried_out, run_over}

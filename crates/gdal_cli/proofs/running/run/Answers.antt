@@ -3,7 +3,8 @@ use Rattle.std.specs.Prelude.{IfOk, IfSome}
 use Rattle.error_lines.specs.declared.faults.Fault.{Fault}
 use Rattle.error_lines.specs.declared.faults.Fault.TheVariants.{InputFault, Memory}
 use Rattle.error_lines.specs.Faults.{IsOutside, status_of}
-use Rattle.gdal_cli.specs.Run.{Answers, AreTold, MayEnd, MayWarn, IsRefusal, TellsFault, words_make_rasters, words_warn}
+use Rattle.gdal_cli.specs.Run.{Answers, AreTold, MayEnd, IsRefusal, TellsFault, words_make_rasters, words_warn}
+use Rattle.gdal_cli.specs.Jobs.{MayWarn}
 use Rattle.command_words.specs.Words.{words_of}
 use Rattle.gdal_cli.specs.Work.{run_of}
 use Rattle.gdal_cli.proofs.Causes.{command_may}

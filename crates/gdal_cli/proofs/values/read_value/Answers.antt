@@ -1,7 +1,7 @@
 use Rattle.std.proofs.Common.{rules, arith, ◌≡◌, ◌∙◌, subst, sym, to_z, of_z, get_or, pos}
 use mir.Syntax.{w128}
 use Rattle.catalog.specs.Pixels.{pixel_of}
-use Rattle.nearest_window.specs.Shown.{IsInBand}
+use Rattle.nearest_window.specs.Windows.{IsInBand}
 use Rattle.error_lines.specs.Faults.{load_fault_of}
 use Rattle.gdal_cli.proofs.Changed.{load_tells}
 use Rattle.gdal_cli.proofs.Ended.{err_is}

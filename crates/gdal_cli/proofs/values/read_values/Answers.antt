@@ -3,7 +3,7 @@ use mir.Syntax.{w128}
 use Rattle.std.proofs.Math.ListN.{length-set}
 use Rattle.std.proofs.lemmas.List.{take_all}
 use Rattle.catalog.specs.Pixels.{pixel_of}
-use Rattle.nearest_window.specs.Shown.{IsInBand}
+use Rattle.nearest_window.specs.Windows.{IsInBand}
 use Rattle.gdal_cli.proofs.Told.{values_more}
 use Rattle.gdal_cli.proofs.Untold.{typed_more}
 use Rattle.gdal_cli.proofs.values.read_values.Goals as goal

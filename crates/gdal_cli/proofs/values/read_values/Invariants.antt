@@ -1,7 +1,7 @@
 use Rattle.std.proofs.Common.{◌≡◌, ◌≤◌, ◌<◌, ◌-◌, ℕ, pos, Some, take, length, map, get_or}
 use Rattle.outside.specs.Outside.{Files}
 use Rattle.catalog.specs.Pixels.{pixel_of}
-use Rattle.nearest_window.specs.Shown.{IsInBand}
+use Rattle.nearest_window.specs.Windows.{IsInBand}
 use Rattle.gdal_cli.specs.Lanes.{IsReadyWith}
 use Rattle.gdal_cli.proofs.values.read_values.Given as goal
 

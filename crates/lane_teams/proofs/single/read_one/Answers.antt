@@ -1,5 +1,5 @@
 use Rattle.std.proofs.Common.{◌+◌, sym, subst, arith}
-use Rattle.nearest_window.specs.Shown.{IsWindow}
+use Rattle.nearest_window.specs.Windows.{IsWindow}
 use Rattle.lane_teams.specs.Parts.{AreOfWindow}
 use Rattle.lane_teams.proofs.Windows.{window_part}
 use Rattle.lane_teams.proofs.Groups.{one_read}

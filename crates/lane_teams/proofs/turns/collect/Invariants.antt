@@ -3,7 +3,7 @@ use Rattle.outside.specs.Causes.{Rose}
 use Rattle.band_blocks.specs.declared.fault.LoadFault.TheVariants.{FolderFault}
 use Rattle.lane_teams.specs.declared.turns.Turn.{Turn}
 use Rattle.lane_teams.specs.Refusals.{first_refusal}
-use Rattle.lane_teams.specs.Turns.{OnlyReadByViews}
+use Rattle.lane_teams.specs.Ready.{OnlyReadByViews}
 use Rattle.lane_teams.proofs.turns.collect.Given as goal
 
 -- the turns that were ended are the last ones

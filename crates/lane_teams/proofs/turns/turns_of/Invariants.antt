@@ -1,6 +1,7 @@
 use Rattle.std.proofs.Common.{◌≡◌, length}
 use Rattle.std.specs.List.{All}
-use Rattle.lane_teams.specs.Turns.{IsTurnOf, OnlyReadByViews}
+use Rattle.lane_teams.specs.Turns.{IsTurnOf}
+use Rattle.lane_teams.specs.Ready.{OnlyReadByViews}
 use Rattle.lane_teams.proofs.turns.turns_of.Given as goal
 
 abbrev pub invariant-loop-at : goal.invariant-loop-at

@@ -2,13 +2,13 @@ use Rattle.std.proofs.Common.{◌≡◌, ◌<◌, ◌∙◌, ℕ, List, Some, ap
 use Rattle.std.proofs.lemmas.List.Elements.{All-nil}
 use Rattle.catalog.specs.Dataset.{DatasetHead}
 use Rattle.catalog.specs.Drivers.{Dataset}
-use Rattle.catalog.specs.Walk.{number_of, IsWalked}
+use Rattle.catalog.specs.Walk.{dataset_number_in, IsWalked}
 use Rattle.catalog.proofs.Found.{found}
 use Rattle.nearest_window.proofs.Blocks.{known, window_of_all}
 use Rattle.lines_tests.proofs.teams.is_read_counted.Goals as goal
 
 -- the number of a name is one of the catalog's datasets
-number_known : (cat : List Dataset) (name : List ℕ) (id : ℕ) → number_of cat name ≡ Some id → id < length cat
+number_known : (cat : List Dataset) (name : List ℕ) (id : ℕ) → dataset_number_in cat name ≡ Some id → id < length cat
 number_known cat name id is =
     let there = found cat name id is in
     known cat id there.dataset there.at

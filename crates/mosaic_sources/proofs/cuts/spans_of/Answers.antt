@@ -1,8 +1,7 @@
 use Rattle.std.proofs.Common.{arith, sym, ap, ◌∙◌, length, length-append, ◌≤◌, ◌∷◌, []}
 use Rattle.std.proofs.lemmas.List.Elements.{All-push}
 use Rattle.mosaic_sources.specs.declared.spans.Span.{Span}
-use Rattle.mosaic_sources.specs.Rows.{covers_line}
-use Rattle.mosaic_sources.specs.Stretches.{is_in_span}
+use Rattle.mosaic_sources.specs.Rows.{covers_line, is_in_span}
 use Rattle.mosaic_sources.proofs.Passing.{passing_both}
 use Rattle.mosaic_sources.proofs.cuts.spans_of.Goals as goal
 

@@ -1,6 +1,7 @@
 use Rattle.std.proofs.Common.{[], ap, arith, get_or, ◌∙◌}
 use Rattle.std.proofs.lemmas.List.{take_all}
-use Rattle.mosaic_sources.specs.Stretches.{holding_lines, is_in_span}
+use Rattle.mosaic_sources.specs.Stretches.{holding_lines}
+use Rattle.mosaic_sources.specs.Rows.{is_in_span}
 use Rattle.mosaic_sources.proofs.Passing.{passing_here}
 use Rattle.mosaic_sources.proofs.lists.lists_of.Goals as goal
 

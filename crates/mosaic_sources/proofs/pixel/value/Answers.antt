@@ -2,7 +2,7 @@ use Rattle.std.proofs.Common.{◌≡◌, ℤ, ◌+ℤ◌, ◌*ℤ◌, Some, None
 use Rattle.std.specs.Prelude.{Option, List, option_map}
 use mir.Syntax.{w128}
 use Rattle.vrt_profile.specs.declared.rectangle.LutPair.{LutPair}
-use Rattle.vrt_profile.specs.Value.{is_nodata, is_plain, whole_by, value_of}
+use Rattle.vrt_profile.specs.Value.{is_nodata, is_plain, whole_by, source_value}
 use Rattle.mosaic_sources.proofs.Following.{nodata_given, plain_given, scaled_given}
 use Rattle.mosaic_sources.proofs.pixel.value.Goals as goal
 

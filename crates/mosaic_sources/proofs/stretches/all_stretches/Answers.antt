@@ -1,8 +1,8 @@
 use Rattle.std.proofs.Common.{arith, ap, ◌≡◌, ◌+◌, length, length-append, ◌∷◌, []}
 use Rattle.std.proofs.lemmas.List.Elements.{All-push}
 use Rattle.mosaic_sources.specs.declared.spans.Span.{Span}
-use Rattle.mosaic_sources.specs.Rows.{stretch_of}
-use Rattle.mosaic_sources.specs.Stretches.{is_in_span, IsWithinCount}
+use Rattle.mosaic_sources.specs.Rows.{stretch_of, is_in_span}
+use Rattle.mosaic_sources.specs.Stretches.{IsWithinCount}
 use Rattle.mosaic_sources.proofs.Held.{flat}
 use Rattle.mosaic_sources.proofs.Passing.{passing_both}
 use Rattle.mosaic_sources.proofs.stretches.all_stretches.Goals as goal

@@ -3,7 +3,8 @@ use Rattle.outside.specs.Streams.{Gets}
 use Rattle.lane_teams.specs.Ready.{AreLanesReady}
 use Rattle.strip_copies.specs.Copies.{IsRoomFor}
 use Rattle.error_lines.specs.Progress.{progress}
-use Rattle.output_copies.specs.Copying.{spoken, IsFilled}
+use Rattle.output_copies.specs.Copying.{spoken}
+use Rattle.output_copies.specs.Filled.{IsFilled}
 use Rattle.output_copies.specs.Parts.{ArePart, BeginsWith}
 use Rattle.output_copies.proofs.Beside.{parts_left}
 use Rattle.output_copies.proofs.ahead.copy_ahead.Given as goal

@@ -4,7 +4,8 @@ use Rattle.outside.specs.Outside.{Files}
 use Rattle.outside.specs.Streams.{Gets, GetsPart}
 use Rattle.error_lines.specs.declared.faults.Fault.{Fault}
 use Rattle.error_lines.specs.Progress.{progress}
-use Rattle.output_copies.specs.Copying.{spoken, IsFilled, TellsChange}
+use Rattle.output_copies.specs.Copying.{spoken, TellsChange}
+use Rattle.output_copies.specs.Filled.{IsFilled}
 use Rattle.output_copies.proofs.Changes.{handed_on, out_tells}
 use Rattle.output_copies.proofs.Ends.{ends_after, ends_beside, ends_so, err_is}
 use Rattle.output_copies.proofs.Told.{told_none, told_so_far}

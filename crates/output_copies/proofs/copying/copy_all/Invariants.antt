@@ -3,7 +3,8 @@ use Rattle.outside.specs.Streams.{Gets}
 use Rattle.lane_teams.specs.Ready.{AreLanesReady}
 use Rattle.strip_copies.specs.Copies.{IsRoomFor}
 use Rattle.error_lines.specs.Progress.{progress}
-use Rattle.output_copies.specs.Copying.{spoken, IsFilled}
+use Rattle.output_copies.specs.Copying.{spoken}
+use Rattle.output_copies.specs.Filled.{IsFilled}
 use Rattle.output_copies.proofs.copying.copy_all.Given as goal
 
 -- the lines so far

@@ -1,6 +1,7 @@
 use Rattle.std.proofs.Common.{◌≡◌, refl, arith, sym, subst, length, ℕ, Option}
 use Rattle.outside.specs.Outside.{Files}
-use Rattle.output_copies.specs.Copying.{IsFilled, TellsChange}
+use Rattle.output_copies.specs.Copying.{TellsChange}
+use Rattle.output_copies.specs.Filled.{IsFilled}
 use Rattle.output_copies.proofs.Changes.{handed_on}
 use Rattle.output_copies.proofs.Copied.{filled_next, filled_to}
 use Rattle.output_copies.proofs.copying.copy_strip.Goals as goal

@@ -1,7 +1,7 @@
 use Rattle.std.proofs.Common.{◌≡◌, ◌≤◌}
 use Rattle.lane_teams.specs.Ready.{AreLanesReady}
 use Rattle.strip_copies.specs.Copies.{IsRoomFor}
-use Rattle.output_copies.specs.Copying.{IsFilled}
+use Rattle.output_copies.specs.Filled.{IsFilled}
 use Rattle.output_copies.proofs.copying.copy_strip.Given as goal
 
 -- the bands so far

@@ -2,7 +2,7 @@ use Rattle.std.proofs.Common.{◌≡◌, ◌-◌, ◌≤◌, ap, sym, subst, ari
 use Rattle.error_lines.specs.declared.faults.Fault.{Fault}
 use Rattle.error_lines.specs.declared.faults.Fault.TheVariants.{OutFault}
 use Rattle.error_lines.specs.Progress.{progress}
-use Rattle.output_copies.specs.Copying.{Tells}
+use Rattle.output_copies.specs.Filled.{Tells}
 use Rattle.output_copies.proofs.Changes.{handed_on}
 use Rattle.output_copies.proofs.Ends.{ends_ok, ends_so, err_is}
 use Rattle.output_copies.proofs.Told.{told_more, told_part}

@@ -1,5 +1,5 @@
 use Rattle.std.proofs.Common.{◌∙◌, rules, Some, None}
-use Rattle.outside.specs.Paths.{dereferenced}
+use Rattle.outside.specs.Plain.{dereferenced}
 use Rattle.outside.proofs.PieceCuts.{pieces_split, one_taken, last_taken}
 use Rattle.outside.proofs.path.normal_parts.Goals as goal
 

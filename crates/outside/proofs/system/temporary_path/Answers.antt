@@ -1,6 +1,7 @@
 use Rattle.std.proofs.Common.{◌≡◌, ◌∙◌, ap, string_bytes, Some, None}
 use Rattle.std.proofs.lemmas.Result.{IfOk-weaker}
-use Rattle.outside.specs.Names.{folder_part, temporary_in, temporary_of}
+use Rattle.outside.specs.Names.{folder_part}
+use Rattle.outside.specs.Temporary.{temporary_in, temporary_of}
 use Rattle.outside.proofs.system.temporary_path.Goals as goal
 
 pub returns-in-Some : goal.returns-in-Some

@@ -2,7 +2,7 @@ use Rattle.std.proofs.Common.{◌≡◌, ◌∙◌, ◌+◌, ◌-◌, pos, Some,
 use Rattle.geotransform.specs.Pixels.{within}
 use Rattle.catalog.specs.Pixels.{pixel_of_name}
 use Rattle.translate_plan.specs.Plan.{shown_line}
-use Rattle.strip_copies.specs.Rows.{made_of, strip_rect, IsSample, IsIn}
+use Rattle.strip_copies.specs.Rows.{made_of, strip_rect, IsSample, IsInSpan}
 use Rattle.strip_copies.proofs.Strips.{strip_pixel}
 use Rattle.strip_copies.proofs.Samples.{fill_sample, made_sample}
 use Rattle.strip_copies.proofs.making.make_row.Goals as goal
@@ -24,7 +24,7 @@ returns-in-Some c = record {
       let columns = c.args.making.columns.now in
       let y = c.in-Some.place in
       let place : within c.args.making.size.h (shown_line p c.args.line) ≡ Some y = sym c.in-Some.ensures.place in
-      let here : IsIn c.args.span y = c.requires.lines.each c.args.line y (omega arith) (omega arith) place in
+      let here : IsInSpan c.args.span y = c.requires.lines.each c.args.line y (omega arith) (omega arith) place in
       let e : get_or c.map_row.new.row i (pos 0) ≡ made_of h c.line_in-pixels.result.now (get_or columns.places.items i 0) =
       c.map_row.ensures.samples i (omega (arith, less, c.requires.row)) ∙ ap (λ l. made_of h c.line_in-pixels.result.now (get_or l i 0)) c.as_slice.ensures.value in
       let down : c.args.span.top + (y - c.args.span.top) ≡ y = omega (arith, here.top) in

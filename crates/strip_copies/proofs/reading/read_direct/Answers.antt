@@ -6,7 +6,8 @@ use Rattle.catalog.specs.Drivers.{Dataset}
 use Rattle.catalog.specs.Pixels.{pixel_of_name}
 use Rattle.catalog.specs.Places.{row_by_row}
 use Rattle.translate_plan.specs.Plan.{Planned}
-use Rattle.strip_copies.specs.Rows.{AreColumns, AreSamples, IsHolding}
+use Rattle.strip_copies.specs.Rows.{AreSamples, IsHolding}
+use Rattle.strip_copies.specs.Columns.{AreColumns}
 use Rattle.strip_copies.proofs.Straight.{direct_samples}
 use Rattle.strip_copies.proofs.reading.read_direct.Goals as goal
 

@@ -1,9 +1,8 @@
 use Rattle.std.proofs.Common.{◌≡◌, ◌+◌, ◌-◌, ◌*◌, ◌≤◌, length, map}
 use Rattle.band_blocks.specs.Contents.{most_calls}
 use Rattle.nearest_window.specs.Lanes.{room_of}
-use Rattle.lane_teams.specs.Ready.{AreLanesReady}
-use Rattle.lane_teams.specs.Turns.{OnlyReadByViews}
-use Rattle.strip_copies.specs.Copies.{AreOf}
+use Rattle.lane_teams.specs.Ready.{AreLanesReady, OnlyReadByViews}
+use Rattle.strip_copies.specs.Rows.{AreOf}
 use Rattle.strip_copies.proofs.reading.read_runs.Given as goal
 
 -- the lines so far

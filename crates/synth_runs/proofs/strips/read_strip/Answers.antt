@@ -1,6 +1,6 @@
 use Rattle.std.proofs.Common.{subst, ℕ}
 use Rattle.std.specs.List.{All}
-use Rattle.nearest_window.specs.Shown.{IsInBand}
+use Rattle.nearest_window.specs.Windows.{IsInBand}
 use Rattle.synth_runs.proofs.Tallying.{samples_near}
 use Rattle.synth_runs.proofs.strips.read_strip.Goals as goal
 

@@ -1,5 +1,5 @@
 use Rattle.std.proofs.Common.{sym}
-use Rattle.vrt_markup.specs.Views.{pair_view}
+use Rattle.vrt_markup.specs.Attributes.{pair_view}
 use Rattle.vrt_markup.proofs.Ordered.{front_others}
 use Rattle.vrt_markup.proofs.attributes.attribute_front.Goals as goal
 

@@ -1,6 +1,6 @@
 use Rattle.std.proofs.Common.{ℕ, List, arith, ◌∙◌, ap, sym}
 use Rattle.vrt_markup.specs.Items.{Pair}
-use Rattle.vrt_markup.specs.Views.{pair_view, spread_view}
+use Rattle.vrt_markup.specs.Attributes.{pair_view, spread_view}
 use Rattle.vrt_markup.proofs.Rising.{spreads_more}
 use Rattle.vrt_markup.proofs.Shorter.{pairs_next}
 use Rattle.vrt_markup.proofs.attributes.behind_rising.Goals as goal

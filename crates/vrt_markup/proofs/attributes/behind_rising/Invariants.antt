@@ -1,7 +1,7 @@
 use Rattle.std.proofs.Common.{◌≡◌, ◌≤◌, map, length}
 use Rattle.vrt_markup.specs.Items.{pairs}
 use Rattle.vrt_markup.specs.Keys.{number_of, spreads}
-use Rattle.vrt_markup.specs.Views.{spread_view}
+use Rattle.vrt_markup.specs.Attributes.{spread_view}
 use Rattle.vrt_markup.proofs.attributes.behind_rising.Given as goal
 
 abbrev pub invariant-loop-pair : goal.invariant-loop-pair

@@ -1,5 +1,5 @@
 use Rattle.std.proofs.Common.{◌∙◌, ap, sym}
-use Rattle.vrt_markup.specs.Views.{pair_view}
+use Rattle.vrt_markup.specs.Attributes.{pair_view}
 use Rattle.vrt_markup.proofs.Names.{keys_more}
 use Rattle.vrt_markup.proofs.attributes.keys_of.Goals as goal
 

@@ -1,5 +1,5 @@
 use Rattle.std.proofs.Common.{sym, ◌∙◌}
-use Rattle.vrt_markup.specs.Views.{pair_view}
+use Rattle.vrt_markup.specs.Attributes.{pair_view}
 use Rattle.vrt_markup.proofs.Names.{twice_here}
 use Rattle.vrt_markup.proofs.attributes.stands_twice.Goals as goal
 

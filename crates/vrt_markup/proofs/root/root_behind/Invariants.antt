@@ -1,5 +1,5 @@
 use Rattle.std.proofs.Common.{◌≡◌, ◌≤◌, length}
-use Rattle.vrt_markup.specs.Tree.{root_behind}
+use Rattle.vrt_markup.specs.Fronts.{root_behind}
 use Rattle.vrt_markup.proofs.root.root_behind.Given as goal
 
 abbrev pub invariant-items : goal.invariant-items

@@ -1,7 +1,7 @@
 use Rattle.std.proofs.Common.{◌≡◌, ◌∙◌, ◌∷◌, ◌++◌, [], ap, sym, refl, List, ℕ, drop, Some, None}
 use Rattle.std.specs.List.{list_all}
-use Rattle.vrt_profile.specs.Fields.{first_piece, pair_of}
-use Rattle.vrt_profile.specs.Fronts.{is_of_key}
+use Rattle.vrt_profile.specs.Fields.{pair_of}
+use Rattle.vrt_profile.specs.Fronts.{first_piece, is_of_key}
 use Rattle.vrt_profile.proofs.ShortNumbers.{key_taken, long_pair, long_behind, lone_pair, lone_behind, comma_behind}
 use Rattle.vrt_profile.proofs.lookup.any_pair_at.Goals as goal
 

@@ -1,6 +1,6 @@
 use Rattle.std.proofs.Common.{◌≡◌, ◌∙◌, ap, sym, rules, ℤ, w64, to_z, of_z}
-use Rattle.vrt_profile.specs.Fields.{first_piece, near_number}
-use Rattle.vrt_profile.specs.Fronts.{pair_with}
+use Rattle.vrt_profile.specs.Fields.{near_number}
+use Rattle.vrt_profile.specs.Fronts.{first_piece, pair_with}
 use Rattle.vrt_profile.proofs.ShortNumbers.{key_pair}
 use Rattle.vrt_profile.proofs.lookup.pair_at.Goals as goal
 

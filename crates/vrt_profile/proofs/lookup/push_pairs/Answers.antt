@@ -1,7 +1,7 @@
 use Rattle.std.proofs.Common.{sym, ap, ◌∙◌, Ok, Err, ◌≡◌, ◌++◌, [], ◌∷◌, List, ℕ, Option, length}
 use Rattle.std.specs.Option.{option_map}
 use denote.Bor.{Bor}
-use Rattle.vrt_profile.specs.Fields.{first_piece}
+use Rattle.vrt_profile.specs.Fronts.{first_piece}
 use Rattle.vrt_profile.specs.Numbers.{next_pair}
 use Rattle.vrt_profile.proofs.Tables.{table_more, table_last, table_err, left_after}
 use Rattle.vrt_profile.proofs.lookup.push_pairs.Goals as goal

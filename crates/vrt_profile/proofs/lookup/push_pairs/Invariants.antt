@@ -1,5 +1,5 @@
 use Rattle.std.proofs.Common.{◌≡◌, length}
-use Rattle.vrt_profile.specs.Numbers.{lut_behind}
+use Rattle.vrt_profile.specs.Fronts.{lut_behind}
 use Rattle.vrt_profile.proofs.lookup.push_pairs.Given as goal
 
 abbrev pub invariant-pieces : goal.invariant-pieces

@@ -1,5 +1,5 @@
 use Rattle.std.proofs.Common.{sym, ap, ◌∙◌, Ok, ◌≡◌, ◌++◌, [], ◌∷◌, Option, Some, List, ℕ, length}
-use Rattle.vrt_profile.specs.Fields.{first_piece}
+use Rattle.vrt_profile.specs.Fronts.{first_piece}
 use Rattle.vrt_profile.specs.Numbers.{next_pair}
 use Rattle.vrt_profile.proofs.Tables.{table_more, left_after}
 use Rattle.vrt_profile.proofs.lookup.push_whole_pairs.Goals as goal

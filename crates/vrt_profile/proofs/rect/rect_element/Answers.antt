@@ -14,15 +14,15 @@ unfolding rect_of rect_by
 returns-in-Ok-clause-rect c =
     let tag = tag_view c.args.tag in
     let inside = inner c.args.level.total c.args.level.depth tag c.args.bytes.now in
-    let blank = c.in-Ok.seen.blank in
+    let white = c.in-Ok.seen.white in
     let children = kept_of true c.in-Ok.seen.kept in
     let x : c.offset_in-x.result ≡ offset_in (attribute (codes "xOff") tag.pairs) = c.offset_in-x.ensures.number ∙ ap offset_in c.rect_texts-texts.ensures.x in
     let y : c.offset_in-y.result ≡ offset_in (attribute (codes "yOff") tag.pairs) = c.offset_in-y.ensures.number ∙ ap offset_in c.rect_texts-texts.ensures.y in
     let w : c.size_in-w.result ≡ size_in (attribute (codes "xSize") tag.pairs) = c.size_in-w.ensures.number ∙ ap size_in c.rect_texts-texts.ensures.w in
     let h : c.size_in-h.result ≡ size_in (attribute (codes "ySize") tag.pairs) = c.size_in-h.ensures.number ∙ ap size_in c.rect_texts-texts.ensures.h in
     ap (λ z. Ok (z, c.in-Ok.rest.now)) (c.rect_by.ensures.rect
-    ∙ ap (λ n. rect_by n c.offset_in-y.result c.size_in-w.result c.size_in-h.result blank children) x
-    ∙ ap (λ n. rect_by (offset_in (attribute (codes "xOff") tag.pairs)) n c.size_in-w.result c.size_in-h.result blank children) y
-    ∙ ap (λ n. rect_by (offset_in (attribute (codes "xOff") tag.pairs)) (offset_in (attribute (codes "yOff") tag.pairs)) n c.size_in-h.result blank children) w
-    ∙ ap (λ n. rect_by (offset_in (attribute (codes "xOff") tag.pairs)) (offset_in (attribute (codes "yOff") tag.pairs)) (size_in (attribute (codes "xSize") tag.pairs)) n blank children) h)
-    ∙ read_then (λ p. rect_by (offset_in (attribute (codes "xOff") tag.pairs)) (offset_in (attribute (codes "yOff") tag.pairs)) (size_in (attribute (codes "xSize") tag.pairs)) (size_in (attribute (codes "ySize") tag.pairs)) p.1 p.0) (seen no_child (Ok true) true) (children, blank) c.in-Ok.rest.now inside c.in-Ok.ensures.seen
+    ∙ ap (λ n. rect_by n c.offset_in-y.result c.size_in-w.result c.size_in-h.result white children) x
+    ∙ ap (λ n. rect_by (offset_in (attribute (codes "xOff") tag.pairs)) n c.size_in-w.result c.size_in-h.result white children) y
+    ∙ ap (λ n. rect_by (offset_in (attribute (codes "xOff") tag.pairs)) (offset_in (attribute (codes "yOff") tag.pairs)) n c.size_in-h.result white children) w
+    ∙ ap (λ n. rect_by (offset_in (attribute (codes "xOff") tag.pairs)) (offset_in (attribute (codes "yOff") tag.pairs)) (size_in (attribute (codes "xSize") tag.pairs)) n white children) h)
+    ∙ read_then (λ p. rect_by (offset_in (attribute (codes "xOff") tag.pairs)) (offset_in (attribute (codes "yOff") tag.pairs)) (size_in (attribute (codes "xSize") tag.pairs)) (size_in (attribute (codes "ySize") tag.pairs)) p.1 p.0) (seen no_child (Ok true) true) (children, white) c.in-Ok.rest.now inside c.in-Ok.ensures.seen

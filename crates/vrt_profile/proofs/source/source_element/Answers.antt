@@ -15,10 +15,10 @@ returns-in-Ok-push_seen-clause-source c =
     let sources = c.args.sources.now in
     let inside = inner c.args.level.total c.args.level.depth tag c.args.bytes.now in
     let rest = c.in-Ok.rest.now in
-    let blank = c.in-Ok.seen.blank in
+    let white = c.in-Ok.seen.white in
     let kept = kept_of (source_view c.children_of.new.parts) c.in-Ok.seen.kept in
     let near : c.is_nearest-near.result ≡ is_nearest (attribute (codes "resampling") tag.pairs) = c.is_nearest-near.ensures.near ∙ ap is_nearest c.attribute.ensures.value in
     let read = c.in-Ok.ensures.seen ∙ ap (λ p. read_as (seen (source_step p.complex) (Ok (source_view p)) true) inside) c.no_parts-parts.ensures.parts in
-    ap (λ k. Ok (k, rest)) (ok_value (kept_of c.push_seen.new.sources c.in-Ok-push_seen.kept) (one_more sources (source_by c.args.complex c.is_nearest-near.result blank kept)) c.in-Ok-push_seen.ensures.pushed
-    ∙ ap (λ n. one_more sources (source_by c.args.complex n blank kept)) near)
-    ∙ read_then (λ p. one_more sources (source_by c.args.complex (is_nearest (attribute (codes "resampling") tag.pairs)) p.1 p.0)) (seen (source_step c.args.complex) (Ok no_parts) true) (kept, blank) rest inside read
+    ap (λ k. Ok (k, rest)) (ok_value (kept_of c.push_seen.new.sources c.in-Ok-push_seen.kept) (one_more sources (source_by c.args.complex c.is_nearest-near.result white kept)) c.in-Ok-push_seen.ensures.pushed
+    ∙ ap (λ n. one_more sources (source_by c.args.complex n white kept)) near)
+    ∙ read_then (λ p. one_more sources (source_by c.args.complex (is_nearest (attribute (codes "resampling") tag.pairs)) p.1 p.0)) (seen (source_step c.args.complex) (Ok no_parts) true) (kept, white) rest inside read

@@ -1,5 +1,5 @@
 use Rattle.std.proofs.Common.{◌≡◌, ◌+◌, ◌++◌, take}
-use Rattle.vrt_writing.specs.Spelled.{bands_text}
+use Rattle.vrt_writing.specs.Appended.{bands_text}
 use Rattle.vrt_writing.proofs.spelling.push_bands.Given as goal
 
 abbrev pub invariant-loop-band : goal.invariant-loop-band

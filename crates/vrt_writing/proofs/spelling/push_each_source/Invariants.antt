@@ -1,5 +1,5 @@
 use Rattle.std.proofs.Common.{◌≡◌, ◌++◌, flat_map, take}
-use Rattle.vrt_writing.specs.Spelled.{source_text}
+use Rattle.vrt_writing.specs.Appended.{source_text}
 use Rattle.vrt_writing.proofs.spelling.push_each_source.Given as goal
 
 abbrev pub invariant-loop-source : goal.invariant-loop-source

@@ -5,7 +5,7 @@ use Rattle.esri_hdr.specs.Head.{Head}
 use Rattle.interleaved_raw.specs.Raw.{strided_at as sample_of}
 use Rattle.band_blocks.specs.Blocks.{BlockView, written}
 use Rattle.band_blocks.proofs.Rows.{length-written}
-use Rattle.write_back.specs.Pieces.{spots_from}
+use Rattle.write_back.specs.Spots.{spots_from}
 use Rattle.write_back.proofs.Runs.{plain_holds, run_stands}
 use Rattle.write_back.proofs.pieces.decode_run.Goals as goal
 

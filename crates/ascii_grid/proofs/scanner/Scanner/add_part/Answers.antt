@@ -1,6 +1,7 @@
 use Rattle.std.proofs.Common.{sym, subst, get_or, List, ℕ, inr, take, ◌+◌}
 use Rattle.std.proofs.lemmas.List.{take_more}
-use Rattle.ascii_grid.specs.Scan.{Reaches, fed}
+use Rattle.ascii_grid.specs.Scan.{fed}
+use Rattle.ascii_grid.specs.Scanning.{Reaches}
 use Rattle.ascii_grid.proofs.Runs.{rest_reaches}
 use Rattle.ascii_grid.proofs.scanner.Scanner.add_part.Goals as goal
 

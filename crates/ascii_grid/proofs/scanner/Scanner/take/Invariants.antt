@@ -1,6 +1,7 @@
 use Rattle.std.proofs.Common.{◌≡◌, ◌≤◌, ◌-◌, take, length, Err}
 use Rattle.ascii_grid.specs.declared.faults.GridFault.{GridFault}
-use Rattle.ascii_grid.specs.Scan.{fed, Reaches}
+use Rattle.ascii_grid.specs.Scan.{fed}
+use Rattle.ascii_grid.specs.Scanning.{Reaches}
 use Rattle.ascii_grid.proofs.scanner.Scanner.take.Given as goal
 
 abbrev pub invariant-loop-at : goal.invariant-loop-at

@@ -2,7 +2,8 @@ use Rattle.std.proofs.Common.{sym, ap, subst, ◌≡◌, ◌∙◌, Some, is_som
 use Rattle.std.specs.Prelude.{nat_eq}
 use Rattle.std.specs.Map.{lookup, keys_of, set_value}
 use Rattle.lru.specs.LruCache.{promoted}
-use Rattle.band_blocks.specs.Open.{SameFiles, without}
+use Rattle.band_blocks.specs.Open.{without}
+use Rattle.band_blocks.specs.Loaded.{SameFiles}
 use Rattle.band_blocks.proofs.Opened.{same_read, keys_used}
 use Rattle.band_blocks.proofs.files.OpenFiles.read_sample.Goals as goal
 

@@ -2,7 +2,7 @@ use Rattle.std.proofs.Common.{◌≡◌, ◌∙◌, ap, sym, ℤ, length, map, a
 use Rattle.std.proofs.lemmas.List.{map-id}
 use Rattle.std.proofs.lemmas.List.FromFn.{length-map-range_with_len}
 use Rattle.geotransform.specs.declared.types.PixelType.TheVariants.{Int16}
-use Rattle.hgt_tiles.specs.Samples.{item_of, row_of}
+use Rattle.hgt_tiles.specs.Samples.{item_at, row_of}
 use Rattle.hgt_tiles.proofs.Rows.{row_stands}
 use Rattle.band_blocks.proofs.Cells.{shown_packed, shown_list}
 use Rattle.band_blocks.proofs.packed.Packed+i16.decode_items.Goals as goal
@@ -25,6 +25,6 @@ returns c =
     let is = shown_list (λ (n : ℤ). n) c.args.self.now c.self.inside.cells.items c.decode_items.new.cells c.self.inside.cells.len (λ l. row_of c.args.bytes.now (length l)) shown (omega arith) (omega arith) (map-id c.decode_items.new.cells ∙ shows ∙ ap (λ l. row_of c.args.bytes.now (length l)) shown) in
     record {
       samples = is;
-      count = ap length is ∙ length-map-range_with_len (item_of c.args.bytes.now) 0 (length c.args.self.now);
+      count = ap length is ∙ length-map-range_with_len (item_at c.args.bytes.now) 0 (length c.args.self.now);
       file = λ file side x y stands. is ∙ row_stands file c.args.bytes.now side x y (length c.args.self.now) c.requires.two stands;
     }

@@ -2,7 +2,7 @@ use Rattle.std.proofs.Common.{◌≡◌, ◌<◌, ◌*◌, ◌∙◌, refl, ap, 
 use Rattle.catalog.specs.Pixels.{pixel_of, pixel_of_name}
 use Rattle.band_blocks.specs.Contents.{most_calls}
 use Rattle.nearest_window.specs.Right.{slack_of}
-use Rattle.nearest_window.specs.Shown.{IsInBand}
+use Rattle.nearest_window.specs.Windows.{IsInBand}
 use Rattle.nearest_window.proofs.Fills.{on_ok}
 use Rattle.nearest_window.proofs.Ranges.{no_sample, window_typed}
 use Rattle.nearest_window.proofs.Service.{reads_between, ready_then}

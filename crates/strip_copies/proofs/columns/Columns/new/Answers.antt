@@ -1,7 +1,7 @@
 use Rattle.std.proofs.Common.{subst, sym, ◌≡◌, ◌∙◌, ◌+◌, ◌-◌, ◌≤◌, ap, arith, length, length-append, [], ◌∷◌}
 use Rattle.geotransform.specs.Pixels.{within}
 use Rattle.translate_plan.specs.Plan.{shown_column, Planned}
-use Rattle.strip_copies.specs.Rows.{column_at}
+use Rattle.strip_copies.specs.Columns.{column_at}
 use Rattle.strip_copies.proofs.Grown.{push_more}
 use Rattle.strip_copies.proofs.Samples.{held_within}
 use Rattle.strip_copies.proofs.columns.Columns.new.Goals as goal

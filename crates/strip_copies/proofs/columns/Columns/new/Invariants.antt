@@ -1,7 +1,7 @@
 use Rattle.std.proofs.Common.{◌≡◌, ◌<◌, ℕ, length, get_or}
 use Rattle.geotransform.specs.Pixels.{within}
 use Rattle.translate_plan.specs.Plan.{shown_column}
-use Rattle.strip_copies.specs.Rows.{column_at}
+use Rattle.strip_copies.specs.Columns.{column_at}
 use Rattle.strip_copies.proofs.columns.Columns.new.Given as goal
 
 -- the places so far

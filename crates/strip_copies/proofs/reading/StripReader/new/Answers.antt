@@ -1,7 +1,7 @@
 use Rattle.std.proofs.Common.{◌≡◌, ◌∙◌, ◌≤◌, ◌*◌, ap, sym, subst, length, arith}
 use Rattle.std.proofs.Math.Nat.{mul-le-mul}
 use Rattle.geotransform.specs.declared.types.Size.{Size}
-use Rattle.strip_copies.specs.Rows.{AreColumns}
+use Rattle.strip_copies.specs.Columns.{AreColumns}
 use Rattle.strip_copies.proofs.reading.StripReader.new.Goals as goal
 
 pub returns-clause-room : goal.returns-clause-room

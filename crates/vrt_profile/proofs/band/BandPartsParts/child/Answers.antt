@@ -4,7 +4,7 @@ use Rattle.vrt_markup.specs.Kept.{Gives, kept_of}
 use Rattle.vrt_markup.specs.Views.{tag_view}
 use Rattle.vrt_markup.specs.declared.fault.VrtFault.TheVariants.{UnknownElement}
 use Rattle.vrt_profile.specs.Means.{band_parts}
-use Rattle.vrt_profile.specs.declared.parts.BandPart.{BandPart}
+use Rattle.vrt_profile.specs.declared.elements.BandPart.{BandPart}
 use Rattle.vrt_profile.proofs.Once.{past_gives}
 use Rattle.vrt_profile.proofs.band.BandPartsParts.child.Goals as goal
 

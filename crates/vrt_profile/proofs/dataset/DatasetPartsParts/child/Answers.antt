@@ -4,7 +4,7 @@ use Rattle.vrt_markup.specs.Kept.{Gives, kept_of}
 use Rattle.vrt_markup.specs.Views.{tag_view}
 use Rattle.vrt_markup.specs.declared.fault.VrtFault.TheVariants.{UnknownElement}
 use Rattle.vrt_profile.specs.Means.{dataset_parts}
-use Rattle.vrt_profile.specs.declared.parts.DatasetPart.{DatasetPart}
+use Rattle.vrt_profile.specs.declared.elements.DatasetPart.{DatasetPart}
 use Rattle.vrt_profile.proofs.Once.{past_gives}
 use Rattle.vrt_profile.proofs.dataset.DatasetPartsParts.child.Goals as goal
 

@@ -6,7 +6,7 @@ use Rattle.vrt_markup.specs.declared.fault.VrtFault.TheVariants.{UnknownElement}
 use Rattle.vrt_profile.specs.Means.{SourceParts, source_parts, rect_of}
 use Rattle.vrt_profile.specs.SourceViews.{source_view}
 use Rattle.vrt_profile.specs.Values.{Rectangle}
-use Rattle.vrt_profile.specs.declared.parts.SourcePart.{SourcePart}
+use Rattle.vrt_profile.specs.declared.elements.SourcePart.{SourcePart}
 use Rattle.vrt_profile.proofs.Once.{put_gives, past_gives}
 use Rattle.vrt_profile.proofs.source.SourcePartsParts.child.Goals as goal
 

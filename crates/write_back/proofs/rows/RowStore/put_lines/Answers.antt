@@ -3,7 +3,8 @@ use Rattle.std.proofs.lemmas.List.{length-take-le, length-drop}
 use Rattle.outside.specs.Outside.{Appended}
 use Rattle.ascii_grid.specs.Text.{row_text}
 use Rattle.ascii_grid.specs.Values.{is_value}
-use Rattle.write_back.specs.Grids.{HasRows, rows_in}
+use Rattle.write_back.specs.Grids.{HasRows}
+use Rattle.write_back.specs.Spots.{cut_rows}
 use Rattle.write_back.proofs.GridRows.{row_more, rows_snoc, slice_all}
 use Rattle.write_back.proofs.States.{row_fits}
 use Rattle.write_back.proofs.rows.RowStore.put_lines.Goals as goal
@@ -36,7 +37,7 @@ loop-row-preserved g c =
       lines = omega (arith, o.lines, so_far.lines);
       told = λ rows has.
           subst (λ l. HasRows c.args.self.now.form c.put_row.new.self.lines (g.F.Folder.draft_bytes c.put_row.new.self.draft) l) (sym (rows_snoc c.args.rect.w c.loop-row.row c.args.samples.now rows))
-          (row_more c.args.self.now.form c.loop-row.self.lines c.put_row.new.self.lines _ _ (rows ++ rows_in c.args.rect.w c.loop-row.row c.args.samples.now) (take c.args.rect.w (drop (c.loop-row.row * c.args.rect.w) c.args.samples.now)) (so_far.told rows has) o.lines (len ∙ c.requires.across)
+          (row_more c.args.self.now.form c.loop-row.self.lines c.put_row.new.self.lines _ _ (rows ++ cut_rows c.args.rect.w c.loop-row.row c.args.samples.now) (take c.args.rect.w (drop (c.loop-row.row * c.args.rect.w) c.args.samples.now)) (so_far.told rows has) o.lines (len ∙ c.requires.across)
           (slice_all (λ v. is_value v ≡ true) c.args.samples.now (c.loop-row.row * c.args.rect.w) c.args.rect.w c.requires.range (omega (arith, fits, c.requires.size)))
           (subst (λ l. Appended (row_text l) (g.F.Folder.draft_bytes c.loop-row.self.draft) (g.F.Folder.draft_bytes c.put_row.new.self.draft)) line o.told));
       name = o.name ∙ so_far.name;
@@ -51,4 +52,4 @@ loop-row-preserved g c =
 pub returns-clause-told : goal.returns-clause-told
 returns-clause-told g c =
     let all : c.loop-row.row ≡ c.args.rect.h = omega (arith, c.loop-row-test.false, c.loop-row.auto.row-end) in
-    λ rows has. subst (λ n. HasRows c.args.self.now.form c.loop-row.self.lines (g.F.Folder.draft_bytes c.loop-row.self.draft) (rows ++ rows_in c.args.rect.w n c.args.samples.now)) all (c.loop-row.invariant.told rows has)
+    λ rows has. subst (λ n. HasRows c.args.self.now.form c.loop-row.self.lines (g.F.Folder.draft_bytes c.loop-row.self.draft) (rows ++ cut_rows c.args.rect.w n c.args.samples.now)) all (c.loop-row.invariant.told rows has)

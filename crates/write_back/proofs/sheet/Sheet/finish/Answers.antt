@@ -2,7 +2,7 @@ use Rattle.std.proofs.Common.{◌≡◌, refl, ap, sym, subst, ◌∙◌}
 use Rattle.write_back.specs.declared.sheet.Kind.TheVariants as kinds
 use Rattle.write_back.specs.Seen.{sheet_of}
 use Rattle.write_back.specs.View.{SheetView, IsSoundOn, IsRightOn}
-use Rattle.write_back.specs.Files.{HasBytes}
+use Rattle.write_back.specs.Drafts.{HasBytes}
 use Rattle.write_back.proofs.Sheets.{bytes_by_blocks, bytes_by_rows, finished_of, on_two, unchanged}
 use Rattle.write_back.proofs.sheet.Sheet.finish.Goals as goal
 

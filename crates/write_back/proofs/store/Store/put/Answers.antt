@@ -1,7 +1,8 @@
 use Rattle.std.proofs.Common.{◌≡◌, refl, ap, sym, ◌∙◌, arith}
 use Rattle.block_cache.specs.Entries.{PoolView, held_at}
 use Rattle.block_cache.specs.Spreads.{IsSpreadInto}
-use Rattle.write_back.specs.Overlay.{line_key, IsLineSet}
+use Rattle.write_back.specs.Overlay.{line_key}
+use Rattle.write_back.specs.Stores.{IsLineSet}
 use Rattle.write_back.specs.Seen.{state_of}
 use Rattle.write_back.proofs.MetColumns.{dirty_patched}
 use Rattle.write_back.proofs.Runs.{on_ok}

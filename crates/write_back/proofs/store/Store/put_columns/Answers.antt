@@ -1,6 +1,8 @@
 use Rattle.std.proofs.Common.{◌≡◌, ◌<◌, ◌+◌, ◌*◌, arith, refl, ap, sym, subst, ◌∙◌, length}
-use Rattle.write_back.specs.Forms.{cut_of, needed_of, AreHeld, IsSpot}
-use Rattle.write_back.specs.Overlay.{IsOverlaid, line_rect}
+use Rattle.write_back.specs.Forms.{cut_of, needed_of, AreHeld}
+use Rattle.write_back.specs.Spots.{IsSpot}
+use Rattle.write_back.specs.Overlay.{IsOverlaid}
+use Rattle.write_back.specs.Stores.{line_rect}
 use Rattle.write_back.proofs.MetColumns.{met_as, met_more, met_none}
 use Rattle.write_back.proofs.Lines.{AreColumns, column_in, columns_more, columns_none}
 use Rattle.write_back.proofs.Transposed.{column_fits, column_of, no_group}

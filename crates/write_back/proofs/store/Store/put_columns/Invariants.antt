@@ -1,7 +1,7 @@
 use Rattle.std.proofs.Common.{◌≡◌, ◌≤◌, ◌*◌, length}
 use Rattle.write_back.specs.Turned.{IsGroup}
 use Rattle.write_back.specs.Seen.{state_of}
-use Rattle.write_back.specs.State.{AreMet, Changes, Serves}
+use Rattle.write_back.specs.Stores.{AreMet, Changes, Serves}
 use Rattle.write_back.proofs.Lines.{AreColumns}
 use Rattle.write_back.proofs.store.Store.put_columns.Given as goal
 

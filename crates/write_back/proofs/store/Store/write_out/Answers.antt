@@ -1,6 +1,7 @@
 use Rattle.std.proofs.Common.{ap, sym, subst, ◌∙◌}
 use Rattle.write_back.specs.declared.forms.Writer.{Writer}
-use Rattle.write_back.specs.Overlay.{IsBlockWritten, IsLine}
+use Rattle.write_back.specs.Overlay.{IsLine}
+use Rattle.write_back.specs.Stores.{IsBlockWritten}
 use Rattle.write_back.specs.Unwritten.{known}
 use Rattle.write_back.proofs.Known.{known_of, known_written}
 use Rattle.write_back.proofs.Lines.{line_is}

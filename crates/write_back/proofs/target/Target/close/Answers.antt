@@ -1,7 +1,8 @@
 use Rattle.std.proofs.Common.{◌≡◌, ◌<◌, ℕ, Some, None, IsSome, refl, ap, sym, subst, ◌∙◌, length, take}
 use Rattle.std.specs.Prelude.{Ok, IfErr}
 use Rattle.write_back.specs.View.{TargetView, shown_on}
-use Rattle.write_back.specs.Files.{bytes_of, target_files, files_of, header_in, header_state, published_by, published_of, with_files, HasHeader, IsForm, IsWhole}
+use Rattle.write_back.specs.Files.{bytes_of, target_files, files_of, header_in, header_state, published_of, with_files, HasHeader, IsForm, IsWhole}
+use Rattle.write_back.specs.Drafts.{published_by}
 use Rattle.write_back.proofs.Published.{files_put, same_count}
 use Rattle.write_back.proofs.target.Target.close.Goals as goal
 

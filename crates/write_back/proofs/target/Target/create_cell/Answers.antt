@@ -2,7 +2,7 @@ use Rattle.std.proofs.Common.{◌≡◌, ◌-◌, ◌++◌, Some, List, ℕ, len
 use Rattle.std.specs.Prelude.{vec_items}
 use Rattle.block_cache.specs.Entries.{IsPool}
 use Rattle.dted_records.specs.Places.{needed_of, record_of}
-use Rattle.write_back.specs.Columns.{cell_of}
+use Rattle.write_back.specs.Columns.{cell_with_front}
 use Rattle.write_back.specs.Pieces.{AreBytes}
 use Rattle.write_back.specs.declared.forms.Writer.TheVariants.{Dted}
 use Rattle.write_back.proofs.Known.{known_new}
@@ -25,14 +25,14 @@ returns-in-Ok-clause-made g c =
       pool = c.in_ok-pool.ensures.empty;
       lines = refl;
       fault = refl;
-      target = made (Dted (cell_of h front)) _ _ c.in_ok-pool.pool c.args.capacity _ _ _ _ (front ++ replicate (needed_of h - length front) 0) (ap Dted c.in-Ok.ensures.cell) valid c.in_ok-pool.ensures.empty
+      target = made (Dted (cell_with_front h front)) _ _ c.in_ok-pool.pool c.args.capacity _ _ _ _ (front ++ replicate (needed_of h - length front) 0) (ap Dted c.in-Ok.ensures.cell) valid c.in_ok-pool.ensures.empty
           len (d.len ∙ c.needed_len.ensures.value) (new_long h front len small) (new_cell h front len small)
-          (λ m e. known_new (Dted (cell_of h front)) _ _ _ (front ++ replicate (needed_of h - length front) 0) (ap Dted c.in-Ok.ensures.cell) (d.front m (sym d.names ∙ e) ∙ same) (cell_zero h front len small))
+          (λ m e. known_new (Dted (cell_with_front h front)) _ _ _ (front ++ replicate (needed_of h - length front) 0) (ap Dted c.in-Ok.ensures.cell) (d.front m (sym d.names ∙ e) ∙ same) (cell_zero h front len small))
           refl;
       zeros = λ some. (
           let m = told_by (g.F.Folder.names c.args.folder.now) some in
-          shows (Dted (cell_of h front)) _ c.in_ok-pool.pool c.args.capacity _ (front ++ replicate (needed_of h - length front) 0) (ap Dted c.in-Ok.ensures.cell) c.in_ok-pool.ensures.empty
-          (known_new (Dted (cell_of h front)) _ _ _ (front ++ replicate (needed_of h - length front) 0) (ap Dted c.in-Ok.ensures.cell) (d.front m.0 m.1 ∙ same) (cell_zero h front len small))
+          shows (Dted (cell_with_front h front)) _ c.in_ok-pool.pool c.args.capacity _ (front ++ replicate (needed_of h - length front) 0) (ap Dted c.in-Ok.ensures.cell) c.in_ok-pool.ensures.empty
+          (known_new (Dted (cell_with_front h front)) _ _ _ (front ++ replicate (needed_of h - length front) 0) (ap Dted c.in-Ok.ensures.cell) (d.front m.0 m.1 ∙ same) (cell_zero h front len small))
           (cell_zero h front len small)
           );
     }

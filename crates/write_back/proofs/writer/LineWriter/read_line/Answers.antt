@@ -1,7 +1,8 @@
 use Rattle.std.proofs.Common.{◌≡◌, ◌<◌, List, ℕ, Some, ap, sym, subst, ◌∙◌, length}
 use Rattle.esri_hdr.specs.Head.{Head}
 use Rattle.interleaved_raw.specs.Raw.{needed_of}
-use Rattle.write_back.specs.Pieces.{planes_of, spots_from, spots_of}
+use Rattle.write_back.specs.Pieces.{planes_of, spots_of}
+use Rattle.write_back.specs.Spots.{spots_from}
 use Rattle.write_back.proofs.writer.LineWriter.read_line.Goals as goal
 
 pub read_pieces-requires-clause-band : goal.read_pieces-requires-clause-band

@@ -2,7 +2,8 @@ use Rattle.std.proofs.Common.{◌≡◌, ◌<◌, List, ℕ, Some, ap, sym, subs
 use Rattle.std.specs.Prelude.{OnOk}
 use Rattle.esri_hdr.specs.Head.{Head}
 use Rattle.interleaved_raw.specs.Raw.{needed_of}
-use Rattle.write_back.specs.Pieces.{line_calls, planes_of, spots_of, IsRunWritten}
+use Rattle.write_back.specs.Pieces.{line_calls, planes_of, spots_of}
+use Rattle.write_back.specs.Spots.{IsRunWritten}
 use Rattle.write_back.proofs.writer.LineWriter.write_line.Goals as goal
 
 pub write_pieces-requires-clause-band : goal.write_pieces-requires-clause-band

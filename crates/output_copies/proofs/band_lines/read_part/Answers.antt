@@ -1,7 +1,7 @@
 use Rattle.error_lines.specs.Faults.{load_fault_of}
 use Rattle.output_copies.specs.Copying.{TellsChange}
 use Rattle.output_copies.proofs.Changes.{handed_on, load_tells}
-use Rattle.output_copies.proofs.parts.read_part.Goals as goal
+use Rattle.output_copies.proofs.band_lines.read_part.Goals as goal
 
 pub returns-in_err-read_lines-clause-changed : goal.returns-in_err-read_lines-clause-changed
 returns-in_err-read_lines-clause-changed g c =

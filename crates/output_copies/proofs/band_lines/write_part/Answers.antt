@@ -4,7 +4,7 @@ use Rattle.error_lines.specs.Faults.{target_fault_of}
 use Rattle.output_copies.specs.Copying.{TellsChange}
 use Rattle.output_copies.proofs.Changes.{handed_on, target_tells}
 use Rattle.output_copies.proofs.Copied.{are_writable, filled_behind, may_come}
-use Rattle.output_copies.proofs.parts.write_part.Goals as goal
+use Rattle.output_copies.proofs.band_lines.write_part.Goals as goal
 
 pub write_window-requires-clause-across : goal.write_window-requires-clause-across
 write_window-requires-clause-across g c κs within =

@@ -2,7 +2,8 @@
 ghost use Rattle.std.specs.Prelude.{◌≡◌, ◌+◌, ◌-◌, ◌*◌, length, IfErr, OnOk};
 ghost use Rattle.lane_teams.specs.Ready.{AreLanesReady};
 ghost use Rattle.strip_copies.specs.Copies.{IsRoomFor, IsTranslation};
-ghost use Rattle.output_copies.specs.Copying.{IsFilled, MayEnd, TellsChange};
+ghost use Rattle.output_copies.specs.Copying.{MayEnd, TellsChange};
+ghost use Rattle.output_copies.specs.Filled.{IsFilled};
 ghost use Rattle.output_copies.specs.Parts.{ArePart, AreRead};
 
 use error_lines::Fault;

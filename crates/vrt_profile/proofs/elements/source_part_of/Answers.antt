@@ -1,6 +1,6 @@
 use Rattle.std.proofs.Common.{◌∙◌, ap, refl}
 use Rattle.vrt_profile.specs.Means.{scaling_part}
-use Rattle.vrt_profile.proofs.parts.source_part_of.Goals as goal
+use Rattle.vrt_profile.proofs.elements.source_part_of.Goals as goal
 
 pub returns-else-is_equal-5 : goal.returns-else-is_equal-5
 returns-else-is_equal-5 c = record {

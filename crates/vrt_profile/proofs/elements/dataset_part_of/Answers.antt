@@ -1,5 +1,5 @@
 use Rattle.std.proofs.Common.{refl}
-use Rattle.vrt_profile.proofs.parts.dataset_part_of.Goals as goal
+use Rattle.vrt_profile.proofs.elements.dataset_part_of.Goals as goal
 
 pub returns-then-is_past : goal.returns-then-is_past
 returns-then-is_past c = record {
