@@ -205,6 +205,7 @@ NAMED_FILES = {
 POINTS = b"0 0\n9 9\n2 1\n"
 # what is published, in its order; a file whose bytes are known with them
 RASTER = dict.fromkeys(("out.bil", "out.hdr"))
+WOVEN = dict.fromkeys(("out.bip", "out.hdr"))
 FILLED = {"out.bil": b"\5\0\xff\xff\t\0", "out.hdr": None}
 MOSAIC = {"out.vrt": None}
 TILES = {"out.vrt": DOCUMENT}
@@ -224,6 +225,8 @@ SHRINKS = (b"2 1\n", {"SHRUNK_FILE": "a.bil", "SHRUNK_TO": "11"}, b"ERROR 3: a.b
 STRICT = (b"", {}, b"ERROR 1: two.bil: skipped (bands)\n")
 # two lanes that read beside each other, and a reader that goes on while lines are written
 IS_SHARED = (b"", {"FEWEST_THREADS": "2"}, b"")
+# two workers that make lines beside each other, one of them in the thread that writes all
+IS_MADE = (b"", {"FEWEST_THREADS": "1"}, b"")
 
 
 def told(line):
@@ -264,7 +267,8 @@ JOBS = (
     ("sources over each other, one block", "gdal_translate --blocks 1 outer.vrt out.bil", b"", FILLED),
     ("sources over each other", "gdal_translate --blocks 64 outer.vrt out.bil", b"", FILLED),
     ("lines that one of two workers reads", "gdal_translate --workers 2 a.bil out.bil", b"", RASTER),
-    ("lines that two workers share", "gdal_translate --workers 2 wide.bil out.bil", IS_SHARED, RASTER),
+    ("lines that two workers make", "gdal_translate --workers 2 wide.bil out.bil", IS_MADE, RASTER),
+    ("lines that two workers share", "gdal_translate --workers 2 wide.bil out.bip", IS_SHARED, WOVEN),
     ("a grid to a grid", "gdal_translate g.asc out.asc", b"", {"out.asc": None}),
     ("a document of a window", "gdal_translate -srcwin 1 0 1 1 o.vrt out.vrt", b"", MOSAIC),
     ("a mosaic, an input of which is skipped", "gdalbuildvrt out.vrt east.bil two.bil", b"", MOSAIC),

@@ -7,9 +7,15 @@ mod band_lines;
 mod calls;
 mod copying;
 mod documents;
+mod making;
 mod output;
+mod packed;
+mod packed_output;
+mod pieces;
 mod progress;
+mod records;
 mod texts;
+mod worker;
 mod writing;
 
 pub use output::write_output;

@@ -24,11 +24,12 @@ use crate::ahead::{Rooms, copy_ahead};
 use crate::band_lines::area;
 use crate::copying::{Copier, copy_all};
 use crate::documents::write_document;
+use crate::packed_output::{shares_of, write_packed};
 use crate::texts::{put_end, put_size};
 use crate::writing::Writing;
 use error_lines::Fault;
 use geotransform::Sample;
-use lane_teams::lines_for;
+use lane_teams::{WorkerCount, lines_for};
 use outside::{Counter, Folder, Sink};
 use shared_lines::{Lines, Scene};
 use std::marker::Brand;
@@ -63,7 +64,13 @@ fn copier_for<'a, F: Folder, L: Ledger, W: Ledger, S: Scene>(
     ensures quiet { IfOk result (λ copier. copier.quiet ≡ writing.now.quiet) }
     ensures memory { IfErr result (λ f. f ≡ Fault.Memory) }
 {
-    let reader = StripReader::new(translation, writing.workers, writing.blocks, loads)?;
+    let reader = StripReader::new(
+        translation,
+        writing.workers,
+        WorkerCount::USUAL,
+        writing.blocks,
+        loads,
+    )?;
     let writes = Counter::open(writes);
     let rows = strip_height(translation, writing.workers, writing.blocks);
     let ahead = writing.workers.get() > 1;
@@ -146,8 +153,8 @@ fn copy_lines<R: Threads + Sync, F: Folder, O: Sink, L: Ledger + Send, W: Ledger
     }
 }
 
-// Publishes the files of an output, all lines of which were written.
-fn publish<F: Folder, W: Ledger>(
+/// Publishes the files of an output, all lines of which were written.
+pub fn publish<F: Folder, W: Ledger>(
     translation: &Translation,
     folder: &mut F,
     target: Target<F>,
@@ -169,9 +176,9 @@ fn publish<F: Folder, W: Ledger>(
     }
 }
 
-// The lines that the lanes of several workers share, as many as blocks are held, where they may read the same blocks.
-// There are none where memory is refused for them.
-fn lines_of<F: Folder, S: Scene>(
+/// The lines that the lanes of several workers share, as many as blocks are held, where they may read the same blocks.
+/// There are none where memory is refused for them.
+pub fn lines_of<F: Folder, S: Scene>(
     translation: &Translation,
     folder: &F,
     writing: &Writing,
@@ -283,6 +290,17 @@ fn write_planned<R: Threads + Sync, F: Folder, O: Sink>(
     translation.plan.rules();
     if let Driver::Vrt = translation.plan.driver {
         return write_document(translation, folder, out, writing);
+    }
+    if let Some(shares) = shares_of(translation, writing) {
+        return write_packed::<R, F, O, Brand, Brand>(
+            rt,
+            translation,
+            folder,
+            out,
+            writing,
+            shares,
+            Blank::new(1),
+        );
     }
     write_files::<R, F, O, Brand, Brand, Brand>(
         rt,

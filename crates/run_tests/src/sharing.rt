@@ -159,11 +159,12 @@ fn points_are_looked_for_in_lines(rt: HostRuntime) {
 
 // One worker copies 32 lines at a time, which show 16 or 17 lines of the column, and the pool holds these: 130 loads.
 // Two copy 256, and a pool of 64 blocks lacks each of the 65 lines in each of the 32 squares: 2,080 loads for a band,
-// if neither of them looks into lines. Where both look, and are at one line of the column at the same time, one of them
-// may miss it, but not both, since only what the other one does there keeps a look from its line: so at most 1,040
-// looks for a band fail, in whatever order the two come. Besides, each may load each line once at first, and for a band
-// the first and the last one, which share a line, 32 times. Of three bands two are read while those before them are
-// written; of an output of another size, lines are made of those that are read.
+// if neither of them looks into lines. Where both look, and are at one line of the column at the same time, one of
+// them may miss it, but not both, since only what the other one does there keeps a look from its line: so at most
+// 1,040 looks for a band fail, in whatever order the two come. Besides, each may load each line once at first, and for
+// a band the first and the last one, which share a line, 32 times. Of three bands two are read while those before them
+// are written; of an output of another size, lines are made of those that are read. (Less than a million samples come
+// to each of the two, so neither packs lines of its own.)
 static TRANSLATIONS: [Reads<'static>; 4] = [
     ("gdal_translate -q --blocks 64 column.vrt out.bil", 130, 150),
     (
