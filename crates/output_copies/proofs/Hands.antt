@@ -15,7 +15,7 @@ use Rattle.strip_copies.specs.declared.portions.Form.{Form}
 use Rattle.error_lines.specs.declared.faults.Fault.{Fault}
 use Rattle.output_copies.specs.declared.worker.Worker.{Worker}
 use Rattle.output_copies.specs.Copying.{MayEnd, TellsChange}
-use Rattle.output_copies.specs.Packed.{top_of, AreDone, AreMade, HasDone, IsWorker, MayAnswerByViews}
+use Rattle.output_copies.specs.Packed.{top_of, AreDone, AreMade, HasDone, IsWorker, MayAnswer, MayAnswerByViews}
 use Rattle.output_copies.proofs.Ends.{ends_after, ends_by_view, ends_later}
 
 -- the first worker's blocks begin where all do
