@@ -4,7 +4,7 @@ use Rattle.output_copies.proofs.Numbered.{of_both, of_first, of_one, of_only, of
 use Rattle.output_copies.proofs.calls.+each.Goals as goal
 
 pub each_from-call_first-requires-clause-accepts : goal.each_from-call_first-requires-clause-accepts
-each_from-call_first-requires-clause-accepts g t c κs within = of_one (AcceptsAt g.F.Fn c.args.f.now) c.args.from c.args.values.now c.requires.some c.requires.accepts
+each_from-call_first-requires-clause-accepts g t c = of_one (AcceptsAt g.F.Fn c.args.f.now) c.args.from c.args.values.now c.requires.some c.requires.accepts
 
 pub each_from-returns-then-count-eq1-clause-changes : goal.each_from-returns-then-count-eq1-clause-changes
 each_from-returns-then-count-eq1-clause-changes g t c = of_only (ChangesAt g.F.Fn c.args.f.now) c.args.from c.args.values.now c.call_first.new.one c.if-count-eq1.true c.call_first.ensures.changes

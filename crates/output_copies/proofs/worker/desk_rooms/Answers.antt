@@ -1,4 +1,4 @@
-use Rattle.std.proofs.Common.{◌≡◌, ◌∙◌, ◌*◌, ap, subst, arith, length, pos, sym}
+use Rattle.std.proofs.Common.{◌≡◌, ◌∙◌, ◌*◌, ap, subst, arith, length, pos}
 use Rattle.std.specs.List.{All}
 use Rattle.std.proofs.lemmas.List.{length-replicate}
 use Rattle.band_blocks.specs.Blocks.{BlockView}
@@ -11,7 +11,7 @@ returns g c =
     let kind = c.kind-kind.ensures.kind in
     record {
       desk = record {
-        wide = (let long = sym c.in_ok-room.room.ok.0 ∙ c.in_ok-room.ensures.len ∙ c.room_len-size.ensures.len in omega (arith, long));
+        wide = omega (arith, c.in_ok-room.room.ok.0, c.in_ok-room.ensures.len, c.room_len-size.ensures.len);
         packs = record {
           block_is = record {
             kind = ap (λ (b : BlockView). b.kind) c.in_ok-block.ensures.zeros ∙ kind;
