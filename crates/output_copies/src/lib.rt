@@ -13,6 +13,7 @@ mod packed;
 mod packed_output;
 mod pieces;
 mod progress;
+mod publishing;
 mod records;
 mod texts;
 mod worker;

@@ -16,8 +16,8 @@ ghost use Rattle.output_copies.specs.Filled.{IsFilled};
 ghost use Rattle.output_copies.specs.Packed.{IsTask};
 ghost use Rattle.output_copies.specs.Steps.{files_by, raster_of, unless_quiet};
 
-use crate::output::{lines_of, publish};
 use crate::packed::copy_packed;
+use crate::publishing::{lines_of, publish};
 use crate::worker::{Task, dismiss, hire};
 use crate::writing::Writing;
 use error_lines::Fault;

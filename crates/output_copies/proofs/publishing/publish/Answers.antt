@@ -5,7 +5,7 @@ use Rattle.write_back.specs.Plans.{output_of}
 use Rattle.output_copies.proofs.Copied.{filled_whole}
 use Rattle.output_copies.proofs.Ends.{outside_target}
 use Rattle.output_copies.proofs.Goes.{publishes_goes, publishes_stops}
-use Rattle.output_copies.proofs.output.publish.Goals as goal
+use Rattle.output_copies.proofs.publishing.publish.Goals as goal
 
 pub returns-in-Ok-clause-goes : goal.returns-in-Ok-clause-goes
 returns-in-Ok-clause-goes g c = λ m d told at text.
