@@ -12,6 +12,7 @@ mod output;
 mod packed;
 mod packed_output;
 mod pieces;
+mod portion;
 mod progress;
 mod publishing;
 mod records;

@@ -12,7 +12,8 @@ ghost use Rattle.output_copies.specs.Filled.{IsFilled};
 ghost use Rattle.output_copies.specs.Packed.{top_of, AreBlocksWritten, AreColumnsWritten, AreDone, AreMade, HasDone};
 ghost use Rattle.output_copies.specs.Packed.{IsPackedAt, IsTask, IsWorker, MayAnswer};
 
-use crate::making::{Portion, make_all, place_of, portion_of};
+use crate::making::make_all;
+use crate::portion::{Portion, place_of, portion_of};
 use crate::progress::{Share, tell};
 use crate::worker::{PackedBlock, Task, Worker, extent_of, renew};
 use error_lines::Fault;

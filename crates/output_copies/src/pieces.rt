@@ -10,7 +10,7 @@ ghost use Rattle.output_copies.specs.Packed.{AreFronts, AreMade, ArePacks, IsDes
 ghost use Rattle.output_copies.specs.Parts.{AreReadIn, BeginsWithIn};
 
 use crate::band_lines::{area, fill_piece, nth_row};
-use crate::making::{Portion, place_of};
+use crate::portion::{Portion, place_of};
 use crate::worker::{Desk, PackedBlock, Task};
 use band_blocks::Block;
 use error_lines::Fault;

@@ -12,7 +12,7 @@ ghost use Rattle.output_copies.specs.Packed.{AreColumnFronts, AreMade, HasRows, 
 ghost use Rattle.output_copies.specs.Parts.{AreReadIn, BeginsWithIn};
 
 use crate::band_lines::{area, fill_piece};
-use crate::making::{Portion, place_of};
+use crate::portion::{Portion, place_of};
 use crate::worker::{Desk, PackedBlock, Task};
 use band_blocks::Block;
 use error_lines::Fault;

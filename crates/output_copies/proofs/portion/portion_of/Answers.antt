@@ -1,6 +1,6 @@
 use Rattle.std.proofs.Common.{◌≡◌, ◌+◌, ◌*◌, ◌≤◌, ℕ, arith}
 use Rattle.std.proofs.Math.Nat.{mul-le-mul}
-use Rattle.output_copies.proofs.making.portion_of.Goals as goal
+use Rattle.output_copies.proofs.portion.portion_of.Goals as goal
 
 next_rows : (at rows : ℕ) → (at + 1) * rows ≡ at * rows + rows
 next_rows at rows = grind arith
