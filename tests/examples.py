@@ -89,6 +89,7 @@ REFUSALS = (
     ("synth 4 5", WORD.format(2)),
     ("synth --blocks 0 45", WORD.format(2)),
     ("synth --workers 0 45", WORD.format(2)),
+    ("synth 45 --config GDAL_CACHEMAX", WORD.format(4)),
 )
 
 

@@ -8,9 +8,9 @@ memory`, a first part of what it prints and the first of the files that it publi
 the folder then. Each line of the result names a job, how many of its allocations were refused and how long that took;
 the last line counts what failed, and the status is 0 where nothing did.
 
-The jobs are those of the rows for calls and files that fail: rows 1, 12, 19 and 20, and of F1 to F4 and G1 to G12 all
-but F4. That one is no run: a lane of one block reads again behind a refusal, which stands in crates/reading_tests, in
-the test `a_lane_of_one_block_goes_on`."""
+The jobs are those of the tests over calls and files that fail, some of them over old files under the names of the
+outputs, and documents that end at chosen places, where those tests try all. Not tried is what is no run: that a lane of
+one block reads again behind a refusal (crates/reading_tests, `a_lane_of_one_block_goes_on`, where a read is refused)."""
 import os
 import shutil
 import subprocess
@@ -51,8 +51,9 @@ void *realloc(void *p, size_t n) { return refused() ? 0 : __libc_realloc(p, n); 
 int posix_memalign(void **p, size_t a, size_t n) { return refused() ? ENOMEM : NEXT(posix_memalign)(p, a, n); }
 void *aligned_alloc(size_t a, size_t n) { return refused() ? 0 : NEXT(aligned_alloc)(a, n); }
 
-/* another file gets a byte for each thread that is started */
+/* another file gets a byte for each thread that is started; none may be to be had */
 int pthread_create(pthread_t *to, const pthread_attr_t *with, void *(*begin)(void *), void *it) {
+    if (getenv("NO_THREADS")) return EAGAIN;
     int mark = open(getenv("THREADS_MARK"), O_CREAT | O_WRONLY | O_APPEND, 0600);
     if (mark >= 0) {
         if (write(mark, "t", 1) < 0) abort();
@@ -135,8 +136,8 @@ DOCUMENT = f"""<VRTDataset rasterXSize="2401" rasterYSize="1201">
 {tile("N00E000.hgt", 0)}{tile("N00E001.hgt", 1200)}  </VRTRasterBand>
 </VRTDataset>
 """.encode()
-# where the cell ends: in and behind its labels, and in and behind the mark, the elevations and the sum of its record
-CELL_ENDS = (0, 1, 79, 80, 81, 728, 729, 3428, 3429, 3436, 3440, 3444)
+# where the cell ends: in and behind its labels, and at each byte of its record
+CELL_ENDS = (0, 1, 79, 80, 81, 728, 729, *range(3428, 3448))
 # behind the first of each of these the document ends
 DOCUMENT_ENDS = (
     b"",
@@ -207,8 +208,17 @@ POINTS = b"0 0\n9 9\n2 1\n"
 RASTER = dict.fromkeys(("out.bil", "out.hdr"))
 WOVEN = dict.fromkeys(("out.bip", "out.hdr"))
 FILLED = {"out.bil": b"\5\0\xff\xff\t\0", "out.hdr": None}
+ZEROS = {"out.bil": bytes(65 * 31250), "out.hdr": None}
 MOSAIC = {"out.vrt": None}
 TILES = {"out.vrt": DOCUMENT}
+# under the names of an output's files, what stands there before the run
+OLD = b"old"
+
+
+class Over(dict):
+    """The files that a job publishes over old ones."""
+
+
 NUMBER = dict.fromkeys((
     *(f"synth_t{tile}.{ending}" for tile in range(4) for ending in ("bil", "hdr")),
     "synth_inner.vrt",
@@ -227,6 +237,8 @@ STRICT = (b"", {}, b"ERROR 1: two.bil: skipped (bands)\n")
 IS_SHARED = (b"", {"FEWEST_THREADS": "2"}, b"")
 # two workers that make lines beside each other, one of them in the thread that writes all
 IS_MADE = (b"", {"FEWEST_THREADS": "1"}, b"")
+# the same where the system starts no thread, so that the one that calls does their work
+NO_THREADS = (b"", {"NO_THREADS": "1"}, b"")
 
 
 def told(line):
@@ -267,12 +279,16 @@ JOBS = (
     ("sources over each other, one block", "gdal_translate --blocks 1 outer.vrt out.bil", b"", FILLED),
     ("sources over each other", "gdal_translate --blocks 64 outer.vrt out.bil", b"", FILLED),
     ("lines that one of two workers reads", "gdal_translate --workers 2 a.bil out.bil", b"", RASTER),
-    ("lines that two workers make", "gdal_translate --workers 2 wide.bil out.bil", IS_MADE, RASTER),
+    ("lines that two workers make", "gdal_translate --workers 2 wide.bil out.bil", IS_MADE, ZEROS),
+    ("the same, and no thread can be started", "gdal_translate --workers 2 wide.bil out.bil", NO_THREADS, ZEROS),
     ("lines that two workers share", "gdal_translate --workers 2 wide.bil out.bip", IS_SHARED, WOVEN),
+    ("nested mosaics over an old raster", "gdal_translate --blocks 1 o.vrt out.bil", b"", Over(RASTER)),
+    ("sources over each other over an old raster", "gdal_translate outer.vrt out.bil", b"", Over(FILLED)),
     ("a grid to a grid", "gdal_translate g.asc out.asc", b"", {"out.asc": None}),
     ("a document of a window", "gdal_translate -srcwin 1 0 1 1 o.vrt out.vrt", b"", MOSAIC),
     ("a mosaic, an input of which is skipped", "gdalbuildvrt out.vrt east.bil two.bil", b"", MOSAIC),
     ("two tiles side by side", "gdalbuildvrt out.vrt N00E000.hgt N00E001.hgt two.bil", b"", TILES),
+    ("the same over an old mosaic", "gdalbuildvrt out.vrt N00E000.hgt N00E001.hgt two.bil", b"", Over(TILES)),
     ("the same without what is skipped", "gdalbuildvrt -strict out.vrt N00E000.hgt N00E001.hgt", b"", TILES),
     ("the same with it, strictly", "gdalbuildvrt -strict out.vrt N00E000.hgt N00E001.hgt two.bil", STRICT, {}),
     ("a mosaic of a list", "gdalbuildvrt -q out.vrt -input_file_list list.txt", b"", MOSAIC),
@@ -306,9 +322,10 @@ LONGEST = 60
 class Place:
     """A job's folder, in which the same files stand before each run."""
 
-    def __init__(self, path, words):
+    def __init__(self, path, words, outputs):
         named = {name: text for name, text in NAMED_FILES.items() if name in words.split()}
-        self.path, self.given, self.stamps = path, {**FILES, **named}, {}
+        old = dict.fromkeys(outputs, OLD) if isinstance(outputs, Over) else {}
+        self.path, self.given, self.stamps = path, {**FILES, **named, **old}, {}
         shutil.rmtree(path, ignore_errors=True)
         os.mkdir(path)
         for name in self.given:
@@ -380,28 +397,34 @@ class Ran:
         self.made = place.take()
 
 
+def published(ran, given):
+    """The names that a run gave other bytes than they had, or had none before."""
+    return {name for name, text in ran.made.items() if text != given.get(name)}
+
+
 def is_right(whole, ran, given, outputs):
     """Whether a run of which a call was refused did the same as one with enough memory, or ended for want of it."""
     if (ran.status, ran.out, ran.err, ran.made) == (whole.status, whole.out, whole.err, whole.made):
         return True
     refused = REFUSED if ran.is_told else b""
     warned = ran.err.removesuffix(refused)
-    new = set(ran.made) - set(given)
+    new = published(ran, given)
     return (
         ran.status == 3
+        and set(given) <= set(ran.made)
         and ran.err.endswith(refused)
         and whole.err.startswith(warned)
         and whole.out.startswith(ran.out)
         and new == set(list(outputs)[: len(new)])
-        and all(text in (whole.made.get(name), given.get(name)) for name, text in ran.made.items())
+        and all(ran.made[name] == whole.made[name] for name in new)
     )
 
 
 def wrong_in(whole, given, fed, outputs):
     """What a run with enough memory does otherwise than the job says, if there is anything."""
-    new = set(whole.made) - set(given)
-    if new != set(outputs):
-        return f"published {sorted(new)}"
+    new = published(whole, given)
+    if new != set(outputs) or not set(given) <= set(whole.made):
+        return f"published {sorted(new)}, and left {sorted(whole.made)}"
     if isinstance(fed, tuple) and whole.err != fed[2]:
         return f"told {whole.err!r}"
     if isinstance(fed, tuple) and whole.threads < int(fed[1].get("FEWEST_THREADS", 0)):
@@ -414,7 +437,7 @@ def wrong_in(whole, given, fed, outputs):
 
 def try_job(room, program, words, fed, outputs):
     """Returns how many calls were refused, one a run, and the first that ended otherwise, if there is one."""
-    place = Place(f"{room}/files", words)
+    place = Place(f"{room}/files", words, outputs)
     whole, number = Ran(room, program, place, words, fed, 0), 0
     wrong = wrong_in(whole, place.given, fed, outputs)
     while wrong is None:
@@ -423,7 +446,7 @@ def try_job(room, program, words, fed, outputs):
         except subprocess.TimeoutExpired:
             return number, f"call {number + 1}: no end within {LONGEST} s"
         if not is_right(whole, ran, place.given, outputs):
-            new = sorted(set(ran.made) - set(place.given))
+            new = sorted(published(ran, place.given))
             wrong = f"call {number + 1}: status {ran.status}, {ran.err!r}, {new}"
         elif not ran.is_refused:
             break

@@ -45,10 +45,15 @@ shows() { "$program" gdal_translate -q "$1" "$2" && cmp -s hills.bil "$2"; }
 
 temporaries() { find . -name '.jirovamby.*' | wc -l; }
 
-# some odd moments, in seconds, and as many by chance
+# moments MICROSECONDS SECONDS..: some odd moments, in seconds, and twenty by chance within so many microseconds
 moments() {
+    longest=$1
+    shift
     echo "$@"
-    for _ in "$@"; do printf '0.%03d ' $((RANDOM % 150)); done
+    for _ in $(seq 20); do
+        at=$(((RANDOM * 32768 + RANDOM) % longest))
+        printf '%d.%06d ' $((at / 1000000)) $((at % 1000000))
+    done
 }
 
 # killed SECONDS WORDS..: a run that is killed so long behind its start
@@ -159,18 +164,18 @@ holds 'which is whole' reports_same
 # killed at odd moments: each name holds its old bytes or its new ones
 head -c 8000000 /dev/zero | tr '\0' 'x' >big.bil
 printf 'NROWS 2000\nNCOLS 4000\nNBANDS 1\nNBITS 8\nLAYOUT BIL\n' >big.hdr
-printf 'old' >killed.bil
-printf 'old' >killed.hdr
 begin=$(now)
 expect 'a translation of 8 MB' 0 '' gdal_translate -q big.bil whole.bil
 took=$(($(now) - begin)) before=$(temporaries) whole=yes
 kill_raster() {
+    printf 'old' >killed.bil
+    printf 'old' >killed.hdr
     killed "$1" gdal_translate -q big.bil killed.bil
     [ "$(head -c 4 killed.bil)" = old ] || cmp -s big.bil killed.bil || whole=no
     [ "$(head -c 4 killed.hdr)" = old ] || cmp -s whole.hdr killed.hdr || whole=no
     [ "$(head -c 4 killed.hdr)" = old ] || cmp -s big.bil killed.bil || whole=no
 }
-for delay in $(moments 0.001 0.003 0.005 0.01 0.02 0.03 0.05 0.08); do kill_raster "$delay"; done
+for delay in $(moments "$took" 0.001 0.003 0.005 0.01 0.02 0.03 0.05 0.08); do kill_raster "$delay"; done
 holds 'one of the killed runs left a temporary file' leaves_one "$before" "$took" kill_raster
 holds 'killed at odd moments, each name holds old bytes or new ones, the header no new ones alone' test "$whole" = yes
 left=$(temporaries)
@@ -310,7 +315,8 @@ as_other() {
 }
 if chmod 755 "$room" && "${other[@]}" test -x "$program" 2>none.txt; then
     mkdir theirs theirs/closed && cp hills.* theirs && printf 'old' >theirs/kept.bil && printf 'x' >theirs/secret.bil
-    chmod 555 theirs/closed && chmod 444 theirs/kept.bil && chmod 000 theirs/secret.bil
+    printf 'old' >theirs/kept.vrt
+    chmod 555 theirs/closed && chmod 444 theirs/kept.bil theirs/kept.vrt && chmod 000 theirs/secret.bil
     touch theirs/out.txt theirs/err.txt
     [ "$(id -u)" != 0 ] || chown 65534 theirs theirs/*.*
     as_other 'a folder that cannot be written' 2 "$no_call" gdal_translate -q hills.bil closed/out.bil
@@ -319,6 +325,8 @@ if chmod 755 "$room" && "${other[@]}" test -x "$program" 2>none.txt; then
     as_other 'a mosaic in that folder' 2 "$no_call" gdalbuildvrt -q closed/out.vrt hills.bil
     as_other 'a read-only file in the place of the output' 0 '' gdal_translate -q hills.bil kept.bil
     holds 'which is replaced whole' cmp -s hills.bil theirs/kept.bil
+    as_other 'a read-only file in the place of a mosaic' 0 '' gdalbuildvrt -q kept.vrt hills.bil
+    holds 'which is replaced, too' grep -q '^<VRTDataset ' theirs/kept.vrt
 else
     untried 'folders and files without rights'
 fi
@@ -412,12 +420,12 @@ for number in $(seq 20000); do echo hills.bil; done >many.txt
 begin=$(now)
 expect 'a mosaic of 20,000 inputs' 0 '' gdalbuildvrt -q many.vrt -input_file_list many.txt
 took=$(($(now) - begin)) before=$(temporaries) whole=yes
-printf 'old' >killed.vrt
 kill_mosaic() {
+    printf 'old' >killed.vrt
     killed "$1" gdalbuildvrt -q killed.vrt -input_file_list many.txt
     [ "$(head -c 4 killed.vrt)" = old ] || cmp -s many.vrt killed.vrt || whole=no
 }
-for delay in $(moments 0.001 0.003 0.01 0.02 0.03 0.05 0.08 0.1 0.15 0.2 0.3); do kill_mosaic "$delay"; done
+for delay in $(moments "$took" 0.001 0.003 0.01 0.02 0.03 0.05 0.08 0.1 0.15 0.2 0.3); do kill_mosaic "$delay"; done
 holds 'one of the killed runs left a temporary file' leaves_one "$before" "$took" kill_mosaic
 holds 'killed at odd moments, the document is the old one or the new one' test "$whole" = yes
 left=$(temporaries)

@@ -7,16 +7,6 @@ use Rattle.write_back.specs.View.{SheetView, window_blocks, all_blocks, calls_of
 use Rattle.write_back.specs.View.{IsRightOn, Meets, lines_after}
 use Rattle.write_back.specs.Overlay.{IsOverlaid}
 
--- what a window does to an output's data and its folder, whatever it answers, by what the folder tells
-abbrev pub KeepsIn : {F File D : Type 0} → Ghosts F File D → Rect → F → SheetView → ℕ → F → SheetView → ℕ → Type 0
-KeepsIn calls rect folder old w folder' new w' = Keeps rect old new (calls.names folder) (calls.names folder')
-    (calls.read_calls folder) (calls.read_calls folder') (calls.write_calls folder) (calls.write_calls folder') w w'
-
--- the same of the last writing
-abbrev pub FinishesIn : {F File D : Type 0} → Ghosts F File D → F → SheetView → ℕ → F → SheetView → ℕ → Type 0
-FinishesIn calls folder old w folder' new w' = Finishes old new (calls.names folder) (calls.names folder')
-    (calls.read_calls folder) (calls.read_calls folder') (calls.write_calls folder) (calls.write_calls folder') w w'
-
 -- what new drafts leave as it was: the names, and the counts of reads and writes
 pub record IsLeft (told told' : Option Files) (r r' c c' : ℕ) : Type 0 where
   pub names : told' ≡ told
@@ -41,6 +31,11 @@ pub record Keeps (rect : Rect) (old new : SheetView) (told told' : Option Files)
   pub none : IsPooled old.output → all_blocks old.output ≤ old.pool.capacity → w' ≡ w
   pub calls : c' ≤ c + calls_of old.output * (w' - w)
 
+-- what a window does to an output's data and its folder, whatever it answers, by what the folder tells
+abbrev pub KeepsIn : {F File D : Type 0} → Ghosts F File D → Rect → F → SheetView → ℕ → F → SheetView → ℕ → Type 0
+KeepsIn calls rect folder old w folder' new w' = Keeps rect old new (calls.names folder) (calls.names folder')
+    (calls.read_calls folder) (calls.read_calls folder') (calls.write_calls folder) (calls.write_calls folder') w w'
+
 -- what a window does besides where it answers Ok
 pub record PutsWindow (band : ℕ) (rect : Rect) (samples : List ℤ) (told told' : Option Files) (old new : SheetView)
     : Type 0 where
@@ -58,3 +53,8 @@ pub record Finishes (old new : SheetView) (told told' : Option Files) (r r' c c'
   pub counted : w ≤ w'
   pub few : w' ≤ w + min old.pool.capacity (all_blocks old.output)
   pub calls : c' ≤ c + calls_of old.output * (w' - w)
+
+-- what the last writing does, by what the folder tells
+abbrev pub FinishesIn : {F File D : Type 0} → Ghosts F File D → F → SheetView → ℕ → F → SheetView → ℕ → Type 0
+FinishesIn calls folder old w folder' new w' = Finishes old new (calls.names folder) (calls.names folder')
+    (calls.read_calls folder) (calls.read_calls folder') (calls.write_calls folder) (calls.write_calls folder') w w'
