@@ -1,5 +1,7 @@
-use Rattle.std.proofs.Common.{◌≡◌, ◌∙◌, ◌+◌, ◌-◌, ◌≤◌, ap, sym, subst}
+use Rattle.std.proofs.Common.{◌≡◌, ◌∙◌, ◌+◌, ◌-◌, ◌≤◌, ap, sym, subst, FitsSigned, rules}
+use Rattle.std.specs.Int.{w64}
 use Rattle.std.specs.Prelude.{unsigned_abs}
+use Rattle.std.proofs.lemmas.Int.{to_z-of_z}
 use Rattle.catalog.specs.Dataset.{band_count}
 use Rattle.translate_plan.specs.Plan.{Planned}
 use Rattle.strip_copies.proofs.Copied.{piece_across, piece_down, placed, source_known}
@@ -9,10 +11,12 @@ pub returns-clause-window : goal.returns-clause-window
 returns-clause-window c =
     let p = c.args.translation.now.plan in
     let piece = c.args.piece in
+    let x-fits : FitsSigned w64 c.plan.inside.x = search rules in
+    let y-fits : FitsSigned w64 c.plan.inside.y = search rules in
     let t = c.requires.translation in
     let copied = c.requires.copied t.dataset t.at in
-    let x : c.place_behind-x.result ≡ unsigned_abs p.x + piece.left = c.place_behind-x.ensures.place ∙ ap (λ (q : Planned). unsigned_abs q.x + piece.left) c.plan.view_is in
-    let y : c.place_behind-y.result ≡ unsigned_abs p.y + piece.first = c.place_behind-y.ensures.place ∙ ap (λ (q : Planned). unsigned_abs q.y + piece.first) c.plan.view_is in
+    let x : c.place_behind-x.result ≡ unsigned_abs p.x + piece.left = c.place_behind-x.ensures.place ∙ (ap (λ n. unsigned_abs n + piece.left) (to_z-of_z w64 c.plan.inside.x x-fits) ∙ ap (λ (q : Planned). unsigned_abs q.x + piece.left) c.plan.view_is) in
+    let y : c.place_behind-y.result ≡ unsigned_abs p.y + piece.first = c.place_behind-y.ensures.place ∙ (ap (λ n. unsigned_abs n + piece.first) (to_z-of_z w64 c.plan.inside.y y-fits) ∙ ap (λ (q : Planned). unsigned_abs q.y + piece.first) c.plan.view_is) in
     record {
       dataset = t.dataset;
       at = t.at;
@@ -25,6 +29,8 @@ pub returns-clause-rect : goal.returns-clause-rect
 returns-clause-rect c =
     let p = c.args.translation.now.plan in
     let piece = c.args.piece in
+    let x-fits : FitsSigned w64 c.plan.inside.x = search rules in
+    let y-fits : FitsSigned w64 c.plan.inside.y = search rules in
     placed p piece c.place_behind-x.result c.place_behind-y.result
-    (c.place_behind-x.ensures.place ∙ ap (λ (q : Planned). unsigned_abs q.x + piece.left) c.plan.view_is)
-    (c.place_behind-y.ensures.place ∙ ap (λ (q : Planned). unsigned_abs q.y + piece.first) c.plan.view_is)
+    (c.place_behind-x.ensures.place ∙ (ap (λ n. unsigned_abs n + piece.left) (to_z-of_z w64 c.plan.inside.x x-fits) ∙ ap (λ (q : Planned). unsigned_abs q.x + piece.left) c.plan.view_is))
+    (c.place_behind-y.ensures.place ∙ (ap (λ n. unsigned_abs n + piece.first) (to_z-of_z w64 c.plan.inside.y y-fits) ∙ ap (λ (q : Planned). unsigned_abs q.y + piece.first) c.plan.view_is))
