@@ -1,4 +1,4 @@
-use Rattle.std.proofs.Common.{◌≡◌, ◌∙◌, ◌≤◌, ◌*◌, ◌/◌, ap, max, subst, sym}
+use Rattle.std.proofs.Common.{◌∙◌, ◌≤◌, ◌*◌, ◌/◌, ap, max, subst, sym}
 use Rattle.strip_copies.proofs.Shared.{beside_fits}
 use Rattle.strip_copies.proofs.height.lines_beside.Goals as goal
 

@@ -1,4 +1,4 @@
-use Rattle.std.proofs.Common.{◌≡◌, ◌∙◌, ap, of_z, to_z, FitsSigned, rules}
+use Rattle.std.proofs.Common.{◌∙◌, ap, of_z, to_z, FitsSigned, rules}
 use Rattle.std.specs.Int.{w64}
 use Rattle.std.proofs.lemmas.Int.{to_z-of_z}
 use Rattle.translate_plan.specs.Plan.{Planned}

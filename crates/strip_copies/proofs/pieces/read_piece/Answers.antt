@@ -1,4 +1,4 @@
-use Rattle.std.proofs.Common.{◌≡◌, ◌∙◌, ◌-◌, ◌*◌, ap, sym, subst, length, arith}
+use Rattle.std.proofs.Common.{◌≡◌, ◌∙◌, ◌-◌, ◌*◌, ap, sym, length, arith}
 use Rattle.std.specs.Prelude.{slice_get}
 use Rattle.geotransform.specs.declared.types.Rect.{Rect}
 use Rattle.catalog.specs.Pixels.{pixel_of_name}

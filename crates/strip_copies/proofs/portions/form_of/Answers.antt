@@ -1,4 +1,4 @@
-use Rattle.std.proofs.Common.{◌≡◌, ap}
+use Rattle.std.proofs.Common.{ap}
 use Rattle.translate_plan.specs.Plan.{Planned}
 use Rattle.strip_copies.proofs.portions.form_of.Goals as goal
 

@@ -1,4 +1,4 @@
-use Rattle.std.proofs.Common.{◌≡◌, ◌≤◌, ◌*◌, ap, arith, length}
+use Rattle.std.proofs.Common.{◌≡◌, ap, arith}
 use Rattle.translate_plan.specs.Plan.{Planned}
 use Rattle.strip_copies.proofs.Shared.{line_few, line_some}
 use Rattle.strip_copies.proofs.portions.line_of.Goals as goal

@@ -1,4 +1,4 @@
-use Rattle.std.proofs.Common.{◌≡◌, Option, ap, sym}
+use Rattle.std.proofs.Common.{Option, ap, sym}
 use Rattle.strip_copies.specs.declared.portions.Form.{Form}
 use Rattle.strip_copies.specs.Portions.{form_of, portions_by}
 use Rattle.strip_copies.proofs.Shared.{form_taken, portions_shared}

@@ -1,4 +1,4 @@
-use Rattle.std.proofs.Common.{◌≡◌, ◌≤◌, ◌*◌, arith}
+use Rattle.std.proofs.Common.{arith}
 use Rattle.strip_copies.specs.Portions.{samples_in}
 use Rattle.strip_copies.proofs.Shared.{fewer_fit, portions_found, portions_missed}
 use Rattle.strip_copies.proofs.portions.portions_in.Goals as goal

@@ -1,4 +1,4 @@
-use Rattle.std.proofs.Common.{◌≡◌, ◌∙◌, ◌≤◌, ◌*◌, sym, subst}
+use Rattle.std.proofs.Common.{◌∙◌, ◌≤◌, ◌*◌, sym, subst}
 use Rattle.std.specs.Prelude.{IfSome}
 use Rattle.strip_copies.specs.Portions.{samples_in}
 use Rattle.strip_copies.proofs.Shared.{portions_cost, portions_pay}

@@ -1,4 +1,4 @@
-use Rattle.std.proofs.Common.{◌≡◌, ◌≤◌, ◌*◌, ◌/◌, subst, arith}
+use Rattle.std.proofs.Common.{◌≤◌, ◌*◌, ◌/◌, subst, arith}
 use Rattle.strip_copies.proofs.Shared.{share_few, shares_fit}
 use Rattle.strip_copies.proofs.portions.share_by_samples.Goals as goal
 

@@ -1,4 +1,4 @@
-use Rattle.std.proofs.Common.{◌≡◌, ◌≤◌, ◌*◌, sym, subst, arith}
+use Rattle.std.proofs.Common.{◌≤◌, ◌*◌, sym, subst, arith}
 use Rattle.std.proofs.Math.Nat.{mul-le-mul}
 use Rattle.strip_copies.proofs.Shared.{ceil_covers, ceil_few, ceil_some}
 use Rattle.strip_copies.proofs.portions.turns_of.Goals as goal

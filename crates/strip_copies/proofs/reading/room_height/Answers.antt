@@ -1,4 +1,4 @@
-use Rattle.std.proofs.Common.{◌≡◌, ◌≤◌, ◌*◌, min, arith}
+use Rattle.std.proofs.Common.{◌≡◌, min, arith}
 use Rattle.strip_copies.proofs.Shared.{fewer_lines}
 use Rattle.strip_copies.proofs.reading.room_height.Goals as goal
 
