@@ -98,25 +98,31 @@ fn two_workers_read_beside_each_other(rt: HostRuntime) {
     assert!(rt; is_copied(&rt, rt.alloc()));
 }
 
-// The wide lines by some workers, and the same through the mosaic.
-static WIDE_NUMBERS: [Row<'static>; 5] = [
+// The wide lines by some workers, and the same through the mosaic, of which each of sixteen has eight lines.
+static WIDE_NUMBERS: [Row<'static>; 8] = [
     ("gdal_translate -q --workers 1 wide.bil a.bil", 0, "", ""),
     ("gdal_translate -q --workers 2 wide.bil b.bil", 0, "", ""),
     ("gdal_translate -q --workers 4 wide.bil c.bil", 0, "", ""),
     ("gdal_translate -q --workers 2 wide.vrt d.bil", 0, "", ""),
     ("gdal_translate -q --workers 3 wide.vrt e.bil", 0, "", ""),
+    ("gdal_translate -q --workers 1 wide.vrt f.bil", 0, "", ""),
+    ("gdal_translate -q --workers 4 wide.vrt g.bil", 0, "", ""),
+    ("gdal_translate -q --workers 16 wide.vrt h.bil", 0, "", ""),
 ];
 
 // Whether each of these numbers of workers copies the same lines.
 fn are_alike_wide<R: Threads + Sync + Abort>(rt: &R, alloc: Global) -> bool {
     let bytes = joined(rt, alloc, &[(samples(), TIMES)]);
     let bytes = bytes.as_slice();
-    let copies: [FileOf<'_>; 5] = [
+    let copies: [FileOf<'_>; 8] = [
         ("a.bil", bytes),
         ("b.bil", bytes),
         ("c.bil", bytes),
         ("d.bil", bytes),
         ("e.bil", bytes),
+        ("f.bil", bytes),
+        ("g.bil", bytes),
+        ("h.bil", bytes),
     ];
     let mut folder = wide_folder(rt, alloc, bytes);
     says_all(rt, alloc, &mut folder, &WIDE_NUMBERS) && has_all(rt, alloc, &folder, &copies)
