@@ -67,6 +67,20 @@ fn wide_folder<R: Abort>(rt: &R, alloc: Global, bytes: &[u8]) -> MemFolder {
     folder_of(rt, alloc, &files, &[])
 }
 
+// Whether a run goes so in a folder whose views wait for one another, and makes this file.
+fn gate_makes<R: Threads + Sync + Abort>(
+    rt: &R,
+    alloc: Global,
+    folder: MemFolder,
+    row: &Row<'_>,
+    made: FileOf<'_>,
+) -> bool {
+    let mut gate = Gate::new(alloc, folder).expect(rt, "memory");
+    let said = says_in(rt, alloc, &mut gate, row);
+    let folder = gate.into_inner();
+    said && has(rt, alloc, &folder, made)
+}
+
 const BESIDE: Row<'static> = ("gdal_translate -q --workers 2 wide.bil out.bil", 0, "", "");
 
 const WOVEN: Row<'static> = ("gdal_translate -q --workers 2 wide.bil out.bip", 0, "", "");
@@ -75,20 +89,15 @@ const WOVEN: Row<'static> = ("gdal_translate -q --workers 2 wide.bil out.bip", 0
 fn is_copied<R: Threads + Sync + Abort>(rt: &R, alloc: Global, row: &Row<'_>, name: &str) -> bool {
     let bytes = joined(rt, alloc, &[(samples(), TIMES)]);
     let folder = wide_folder(rt, alloc, bytes.as_slice());
-    let mut gate = Gate::new(alloc, folder).expect(rt, "memory");
-    let said = says_in(rt, alloc, &mut gate, row);
-    let folder = gate.into_inner();
-    said && has(rt, alloc, &folder, (name, bytes.as_slice()))
+    gate_makes(rt, alloc, folder, row, (name, bytes.as_slice()))
 }
 
 // Few lines, which one of two workers reads through the folder itself, so that nobody waits.
 const FEW: Row<'static> = ("gdal_translate -q --workers 2 tall.bil out.bil", 0, "", "");
 
 fn few_are_copied<R: Threads + Sync + Abort>(rt: &R, alloc: Global) -> bool {
-    let mut gate = Gate::new(alloc, folder(rt, alloc)).expect(rt, "memory");
-    let said = says_in(rt, alloc, &mut gate, &FEW);
-    let folder = gate.into_inner();
-    said && has(rt, alloc, &folder, ("out.bil", samples()))
+    let folder = folder(rt, alloc);
+    gate_makes(rt, alloc, folder, &FEW, ("out.bil", samples()))
 }
 
 #[test]
@@ -106,29 +115,36 @@ fn two_workers_read_beside_each_other(rt: HostRuntime) {
     assert!(rt; is_copied(&rt, rt.alloc(), &WOVEN, "out.bip"));
 }
 
-// The wide lines by some workers, and the same through the mosaic. Those of the last two files are read in strips.
-static WIDE_NUMBERS: [Row<'static>; 7] = [
+// The wide lines by some workers, and the same through the mosaic. Those of the last three files are read in strips; of
+// the first of these each of sixteen workers reads eight lines.
+static WIDE_NUMBERS: [Row<'static>; 10] = [
     ("gdal_translate -q --workers 1 wide.bil a.bil", 0, "", ""),
     ("gdal_translate -q --workers 2 wide.bil b.bil", 0, "", ""),
     ("gdal_translate -q --workers 4 wide.bil c.bil", 0, "", ""),
     ("gdal_translate -q --workers 2 wide.vrt d.bil", 0, "", ""),
     ("gdal_translate -q --workers 3 wide.vrt e.bil", 0, "", ""),
-    ("gdal_translate -q --workers 4 wide.bil f.bip", 0, "", ""),
-    ("gdal_translate -q --workers 3 wide.vrt g.bip", 0, "", ""),
+    ("gdal_translate -q --workers 1 wide.vrt f.bil", 0, "", ""),
+    ("gdal_translate -q --workers 4 wide.vrt g.bil", 0, "", ""),
+    ("gdal_translate -q --workers 16 wide.vrt h.bil", 0, "", ""),
+    ("gdal_translate -q --workers 4 wide.bil i.bip", 0, "", ""),
+    ("gdal_translate -q --workers 3 wide.vrt j.bip", 0, "", ""),
 ];
 
 // Whether each of these numbers of workers copies the same lines.
 fn are_alike_wide<R: Threads + Sync + Abort>(rt: &R, alloc: Global) -> bool {
     let bytes = joined(rt, alloc, &[(samples(), TIMES)]);
     let bytes = bytes.as_slice();
-    let copies: [FileOf<'_>; 7] = [
+    let copies: [FileOf<'_>; 10] = [
         ("a.bil", bytes),
         ("b.bil", bytes),
         ("c.bil", bytes),
         ("d.bil", bytes),
         ("e.bil", bytes),
-        ("f.bip", bytes),
-        ("g.bip", bytes),
+        ("f.bil", bytes),
+        ("g.bil", bytes),
+        ("h.bil", bytes),
+        ("i.bip", bytes),
+        ("j.bip", bytes),
     ];
     let mut folder = wide_folder(rt, alloc, bytes);
     says_all(rt, alloc, &mut folder, &WIDE_NUMBERS) && has_all(rt, alloc, &folder, &copies)
@@ -368,6 +384,92 @@ fn each_failing_call_of_two_workers_that_read_ahead(rt: HostRuntime) {
         &rt,
         first_unmet_long(&rt, rt.alloc(), LONG_STRIPS, "out.bip", LONG_WOVEN),
     );
+}
+
+// A raster of one line, and a mosaic that shows it in each of its two: the smallest of which two workers read a line
+// each, beside each other. Both need the raster's block, and the lines that they share may have it from the other one.
+const LINE_TIMES: usize = 1_024;
+
+const LINE: &[u8] = b"NROWS 1\nNCOLS 262144\n";
+
+const TWICE: &[u8] =
+    b"<VRTDataset rasterXSize='262144' rasterYSize='2'><VRTRasterBand dataType='Byte'><SimpleSource>
+<SourceFilename>line.bil</SourceFilename><DstRect xOff='0' yOff='0' xSize='262144' ySize='1'/></SimpleSource>
+<SimpleSource><SourceFilename>line.bil</SourceFilename><DstRect xOff='0' yOff='1' xSize='262144' ySize='1'/>
+</SimpleSource></VRTRasterBand></VRTDataset>";
+
+const TWICE_MADE: &[u8] = b"BYTEORDER      I
+LAYOUT         BIL
+NROWS          2
+NCOLS          262144
+NBANDS         1
+NBITS          8
+SKIPBYTES      0
+BANDROWBYTES   262144
+TOTALROWBYTES  262144
+BANDGAPBYTES   0
+PIXELTYPE      UNSIGNEDINT
+";
+
+const TWICE_TEXT: &str =
+    "Input file size is 262144, 2\n0...10...20...30...40...50...60...70...80...90...100 - done.\n";
+
+// The document is opened and read, the raster and its header are opened and the header is read. A worker that reads the
+// line opens the raster and reads four pieces or more; the other one does the same beside it, or nothing. The two
+// drafts are made, one is grown and each of its lines written, the other gets its text, and both are published.
+static TWICE_TURNS: [Turn; 3] = [
+    (0, Failer::Folder, (18, 64)),
+    (0, Failer::Output(3), (2, 64)),
+    (0, Failer::Input, (0, 1)),
+];
+
+// The first work of which a call's failing isn't met.
+fn first_unmet_twice<R: Threads + Sync + Abort>(rt: &R, alloc: Global) -> Option<usize> {
+    let line = joined(rt, alloc, &[(samples(), LINE_TIMES)]);
+    let line = line.as_slice();
+    let both = joined(rt, alloc, &[(line, 2)]);
+    let files: [FileOf<'_>; 5] = [
+        ("line.bil", line),
+        ("line.hdr", LINE),
+        ("twice.vrt", TWICE),
+        ("out.bil", b"old data"),
+        ("out.hdr", b"old header"),
+    ];
+    let outputs: [Output<'_>; 2] = [
+        ("out.bil", b"old data", both.as_slice()),
+        ("out.hdr", b"old header", TWICE_MADE),
+    ];
+    let works: [Work<'_>; 1] = [Work {
+        line: "gdal_translate --workers 2 twice.vrt out.bil",
+        text: TWICE_TEXT,
+        told: "",
+        outputs: &outputs,
+    }];
+    first_unmet(rt, alloc, &files, &works, &TWICE_TURNS)
+}
+
+// Each call of the folder fails in turn while two workers need the same line, whichever of them makes it, and each of
+// the output.
+#[test]
+fn each_failing_call_over_a_shared_line(rt: HostRuntime) {
+    none_wrong(&rt, first_unmet_twice(&rt, rt.alloc()));
+}
+
+const ONCE_EACH: Row<'static> = ("gdal_translate -q --workers 2 twice.vrt out.bil", 0, "", "");
+
+// Whether two workers that need the same line wait for each other to read it.
+fn is_read_twice<R: Threads + Sync + Abort>(rt: &R, alloc: Global) -> bool {
+    let line = joined(rt, alloc, &[(samples(), LINE_TIMES)]);
+    let line = line.as_slice();
+    let both = joined(rt, alloc, &[(line, 2)]);
+    let files: [FileOf<'_>; 3] = [("line.bil", line), ("line.hdr", LINE), ("twice.vrt", TWICE)];
+    let folder = folder_of(rt, alloc, &files, &[]);
+    gate_makes(rt, alloc, folder, &ONCE_EACH, ("out.bil", both.as_slice()))
+}
+
+#[test]
+fn two_workers_read_one_line(rt: HostRuntime) {
+    assert!(rt; is_read_twice(&rt, rt.alloc()));
 }
 
 // The lines by many workers, of which each has few, and the same through the mosaics.
