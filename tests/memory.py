@@ -397,9 +397,9 @@ class Ran:
         self.made = place.take()
 
 
-def published(ran, given):
-    """The names that a run gave other bytes than they had, or had none before."""
-    return {name for name, text in ran.made.items() if text != given.get(name)}
+def published(ran, given, outputs):
+    """The outputs that have other bytes than before, and what stands there besides and didn't before."""
+    return {it for it, text in ran.made.items() if text != given.get(it) and (it in outputs or it not in given)}
 
 
 def is_right(whole, ran, given, outputs):
@@ -408,7 +408,7 @@ def is_right(whole, ran, given, outputs):
         return True
     refused = REFUSED if ran.is_told else b""
     warned = ran.err.removesuffix(refused)
-    new = published(ran, given)
+    new = published(ran, given, outputs)
     return (
         ran.status == 3
         and set(given) <= set(ran.made)
@@ -416,13 +416,13 @@ def is_right(whole, ran, given, outputs):
         and whole.err.startswith(warned)
         and whole.out.startswith(ran.out)
         and new == set(list(outputs)[: len(new)])
-        and all(ran.made[name] == whole.made[name] for name in new)
+        and all(text in (whole.made.get(name), given.get(name)) for name, text in ran.made.items())
     )
 
 
 def wrong_in(whole, given, fed, outputs):
     """What a run with enough memory does otherwise than the job says, if there is anything."""
-    new = published(whole, given)
+    new = published(whole, given, outputs)
     if new != set(outputs) or not set(given) <= set(whole.made):
         return f"published {sorted(new)}, and left {sorted(whole.made)}"
     if isinstance(fed, tuple) and whole.err != fed[2]:
@@ -446,7 +446,7 @@ def try_job(room, program, words, fed, outputs):
         except subprocess.TimeoutExpired:
             return number, f"call {number + 1}: no end within {LONGEST} s"
         if not is_right(whole, ran, place.given, outputs):
-            new = sorted(published(ran, place.given))
+            new = sorted(published(ran, place.given, outputs))
             wrong = f"call {number + 1}: status {ran.status}, {ran.err!r}, {new}"
         elif not ran.is_refused:
             break
