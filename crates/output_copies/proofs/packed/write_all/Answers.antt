@@ -58,7 +58,7 @@ returns-in_err-write_made-clause-ends g c = λ before early answers.
     let told = g.F.Folder.names c.args.folder.now in
     let x = c.in_err-write_made.field-0.0 in
     ends_so told before (g.F.Folder.faults c.write_made.new.folder) 0 0 x c.from_residual.result (err_is c.from_residual.result x c.from_residual.ensures)
-    (subst (λ (o : Option Files). MayEnd o before (g.F.Folder.faults c.write_made.new.folder) 0 0 (Err x)) so_far.names
+    (subst (λ (o : Option Files). MayEnd {T = Unit {0}} o before (g.F.Folder.faults c.write_made.new.folder) 0 0 (Err x)) so_far.names
     (c.in_err-write_made.ensures.ends before
     (ends_later g.S.Scene.told before (g.F.Folder.faults c.args.folder.now) (g.F.Folder.faults c.loop-at.folder) 0 0 _ so_far.later
     (answer_kept g.F.Folder g.S.Scene.told g.S.Scene.cat t.cat t.id t.plan c.args.task.now.packing c.args.task.now.form c.args.task.now.rows c.args.task.now.step before (g.F.Folder.faults c.args.folder.now) c.loop-at.at c.args.workers.now c.loop-at.workers answers so_far.written (omega (arith, so_far.written.count, c.loop-at-test.true)) _))))
