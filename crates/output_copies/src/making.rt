@@ -56,8 +56,9 @@ fn pack_lines<S: Scene>(
     let plan = &task.translation.plan;
     plan.rules();
     let bands = plan.count();
+    let width = plan.size.w;
     for line in lines.first..lines.end {
-        let row = nth_row(samples, line - lines.first, plan.size.w);
+        let row = nth_row(samples, line - lines.first, width);
         let place = place_of(bands, lines.band, line - top);
         packed[place].pack(&task.packing, row, block);
     }
