@@ -75,6 +75,7 @@ columns_on (Rows g) = false
 
 -- the blocks of a driver's files are columns where those of its writer are
 pub columns_by : (d : Driver) (p : Planned) (w : Writer) → output_by d p ≡ Some (Blocks w) → has_columns d ≡ (cut_of w).by_columns
+unfolding columns_on
 columns_by EHdr p w e = ap columns_on (is_same _ (Blocks w) e)
 columns_by (drivers.Dted level) p w e = let c = cell_found (cell_in level p.size p.geo) (Blocks w) e in sym (ap columns_on c.output)
 columns_by SrtmHgt p w e = ap columns_on (is_same _ (Blocks w) e)

@@ -25,3 +25,13 @@ module _ {F T : Type 0} (g : Shared F (ℕ × (MutBor T × Unit {0})) (Unit {0} 
   -- such calls of f may leave these values there
   abbrev pub ChangesFrom : ℕ → List T → List T → Type 0
   ChangesFrom from xs ys = (i : ℕ) (d : T) → i < length xs → ChangesAt g f (from + i) (get_or xs i d) (get_or ys i d)
+
+  -- a call of f with the number of the one value of a list may leave this list there
+  pub record ChangesOne (from : ℕ) (xs ys : List T) : Type 0 where
+    pub count : length ys ≡ length xs
+    pub changes : (d : T) → ChangesAt g f from (get_or xs 0 d) (get_or ys 0 d)
+
+  -- such calls may leave this list there, of as many values
+  pub record ChangesAll (from : ℕ) (xs ys : List T) : Type 0 where
+    pub count : length ys ≡ length xs
+    pub changes : ChangesFrom from xs ys

@@ -2,7 +2,7 @@
 ghost use Rattle.std.specs.Prelude.{◌≡◌, ◌+◌, ◌<◌, ◌^◌, length, slice_index_or};
 ghost use Rattle.std.specs.Fork.{AcceptsAt, AcceptsEach, ChangesAt, ChangesEach};
 ghost use Rattle.std.specs.Thread.{IsSend, IsSync};
-ghost use Rattle.output_copies.specs.Calls.{Accepts, AcceptsFrom, Changes, ChangesFrom};
+ghost use Rattle.output_copies.specs.Calls.{Accepts, AcceptsFrom, Changes, ChangesAll, ChangesOne};
 
 use std::thread::{Threads, join_mut};
 
@@ -50,8 +50,7 @@ fn call_at<T, F: Fn(usize, &mut T)>(f: &F, at: usize, it: &mut T)
 fn call_first<T, F: Fn(usize, &mut T)>(f: &F, from: usize, one: &mut [T])
     requires one { length one.old ≡ 1 }
     requires accepts { (d : T) → AcceptsAt F.Fn f.now from (slice_index_or one.old 0 d) }
-    ensures count { length one.new ≡ length one.old }
-    ensures changes { (d : T) → ChangesAt F.Fn f.now from (slice_index_or one.old 0 d) (slice_index_or one.new 0 d) }
+    ensures { ChangesOne F.Fn f.now from one.old one.new }
 {
     call_at(f, from, &mut one[0]);
 }
@@ -72,22 +71,18 @@ fn one_and_others<R: Threads + Sync, T: Send, F: Fn(usize, &mut T) + Sync>(
     requires few { next + length others.old < 2 ^ 64 }
     requires front { (d : T) → AcceptsAt F.Fn f.now from (slice_index_or one.old 0 d) }
     requires back { AcceptsFrom F.Fn f.now next others.old }
-    ensures front_count { length one.new ≡ length one.old }
-    ensures back_count { length others.new ≡ length others.old }
-    ensures front { (d : T) → ChangesAt F.Fn f.now from (slice_index_or one.old 0 d) (slice_index_or one.new 0 d) }
-    ensures back { ChangesFrom F.Fn f.now next others.old others.new }
+    ensures front { ChangesOne F.Fn f.now from one.old one.new }
+    ensures back { ChangesAll F.Fn f.now next others.old others.new }
 {
     let mut front = ||
         requires { IsSync F.row × IsSend T.row × (length one.now ≡ 1) ×
             ((d : T) → AcceptsAt F.Fn f.now from (slice_index_or one.now 0 d)) }
-        ensures { (length one.exit.now ≡ length one.entry.now) × ((d : T) →
-            ChangesAt F.Fn f.entry.now from (slice_index_or one.entry.now 0 d) (slice_index_or one.exit.now 0 d)) }
+        ensures { ChangesOne F.Fn f.entry.now from one.entry.now one.exit.now }
     { call_first(f, from, one) };
     let mut back = ||
         requires { IsSync R.row × IsSync F.row × IsSend T.row × (0 < length others.now) ×
             (next + length others.now < 2 ^ 64) × AcceptsFrom F.Fn f.now next others.now }
-        ensures { (length others.exit.now ≡ length others.entry.now) ×
-            ChangesFrom F.Fn f.entry.now next others.entry.now others.exit.now }
+        ensures { ChangesAll F.Fn f.entry.now next others.entry.now others.exit.now }
     { each_from(rt, f, next, others) };
     join_mut(rt, &mut front, &mut back);
 }
@@ -103,8 +98,7 @@ fn each_from<R: Threads + Sync, T: Send, F: Fn(usize, &mut T) + Sync>(
     requires some { 0 < length values.old }
     requires few { from + length values.old < 2 ^ 64 }
     requires accepts { AcceptsFrom F.Fn f.now from values.old }
-    ensures count { length values.new ≡ length values.old }
-    ensures changes { ChangesFrom F.Fn f.now from values.old values.new }
+    ensures { ChangesAll F.Fn f.now from values.old values.new }
 {
     let count = values.len();
     if count == 1 {

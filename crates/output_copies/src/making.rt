@@ -56,8 +56,9 @@ fn pack_lines<S: Scene>(
     let plan = &task.translation.plan;
     plan.rules();
     let bands = plan.count();
+    let width = plan.size.w;
     for line in lines.first..lines.end {
-        let row = nth_row(samples, line - lines.first, plan.size.w);
+        let row = nth_row(samples, line - lines.first, width);
         let place = place_of(bands, lines.band, line - top);
         packed[place].pack(&task.packing, row, block);
     }
@@ -88,7 +89,8 @@ fn pack_front<S: Scene>(
     ensures made { AreMade S.told task.now.translation.now.cat task.now.translation.now.id
         task.now.translation.now.plan task.now.packing top packed.new lines.first lines.end (lines.band + 1) }
 {
-    let count = area(task.translation.plan.size.w, lines.end - lines.first);
+    let plan = &task.translation.plan;
+    let count = area(plan.size.w, lines.end - lines.first);
     let part = &room[..count];
     pack_lines(task, top, lines, part, block, packed);
 }

@@ -32,11 +32,11 @@ pub fn portion_of(extent: u32, rows: u32, first: u32, at: usize) -> Portion
     ensures within { result.end ≤ extent }
     ensures few { result.end ≤ result.top + rows }
 {
-    let extent = u64::from(extent);
-    let share = at as u64 * u64::from(rows);
-    let before = u64::from(first) + share;
+    let extent = extent as u64;
+    let share = at as u64 * rows as u64;
+    let before = first as u64 + share;
     let top = before.min(extent);
-    let after = before + u64::from(rows);
+    let after = before + rows as u64;
     let end = after.min(extent);
     Portion {
         top: top as u32,

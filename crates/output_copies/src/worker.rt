@@ -229,8 +229,9 @@ struct Rooms {
 fn room_len<S: Scene>(task: &Task<S>) -> usize
     ensures len { result ≡ room_in task.now.form task.now.translation.now.plan task.now.rows task.now.step }
 {
+    let plan = &task.translation.plan;
     match task.form {
-        Form::Lines => area(task.translation.plan.size.w, task.step),
+        Form::Lines => area(plan.size.w, task.step),
         Form::Pieces => area(task.step, task.rows),
         Form::Records => area(task.rows, task.step),
     }

@@ -6,8 +6,11 @@ use Rattle.output_copies.proofs.calls.+each.Goals as goal
 pub each_from-call_first-requires-clause-accepts : goal.each_from-call_first-requires-clause-accepts
 each_from-call_first-requires-clause-accepts g t c = of_one (AcceptsAt g.F.Fn c.args.f.now) c.args.from c.args.values.now c.requires.some c.requires.accepts
 
-pub each_from-returns-then-count-eq1-clause-changes : goal.each_from-returns-then-count-eq1-clause-changes
-each_from-returns-then-count-eq1-clause-changes g t c = of_only (ChangesAt g.F.Fn c.args.f.now) c.args.from c.args.values.now c.call_first.new.one c.if-count-eq1.true c.call_first.ensures.changes
+pub each_from-returns-then-count-eq1 : goal.each_from-returns-then-count-eq1
+each_from-returns-then-count-eq1 g t c = record {
+  count = c.call_first.ensures.count;
+  changes = of_only (ChangesAt g.F.Fn c.args.f.now) c.args.from c.args.values.now c.call_first.new.one c.if-count-eq1.true c.call_first.ensures.changes;
+}
 
 pub each_from-one_and_others-requires-clause-front : goal.each_from-one_and_others-requires-clause-front
 each_from-one_and_others-requires-clause-front g t c κs within =
@@ -19,15 +22,13 @@ each_from-one_and_others-requires-clause-back g t c κs within =
     let cut = c.split_at_mut-one in
     of_others (AcceptsAt g.F.Fn c.args.f.now) c.args.from c.args.values.now cut.result.0.now cut.result.1.now cut.ensures.value cut.ensures.front_len c.requires.accepts
 
-pub each_from-returns-clause-count : goal.each_from-returns-clause-count
-each_from-returns-clause-count g t c =
+pub each_from-returns : goal.each_from-returns
+each_from-returns g t c =
     let cut = c.split_at_mut-one in
     let o = c.one_and_others.ensures in
     let new = length-append c.one_and_others.new.one c.one_and_others.new.others in
-    omega (arith, new, o.front_count, o.back_count, cut.ensures.front_len, cut.ensures.back_len)
-
-pub each_from-returns-clause-changes : goal.each_from-returns-clause-changes
-each_from-returns-clause-changes g t c =
-    let cut = c.split_at_mut-one in
-    let o = c.one_and_others.ensures in
-    of_both (ChangesAt g.F.Fn c.args.f.now) c.args.from c.args.values.now _ cut.result.0.now cut.result.1.now _ _ cut.ensures.value refl cut.ensures.front_len o.front_count o.front o.back
+    record {
+      count = omega (arith, new, o.front.count, o.back.count, cut.ensures.front_len, cut.ensures.back_len);
+      changes =
+          of_both (ChangesAt g.F.Fn c.args.f.now) c.args.from c.args.values.now _ cut.result.0.now cut.result.1.now _ _ cut.ensures.value refl cut.ensures.front_len o.front.count o.front.changes o.back.changes;
+    }

@@ -4,7 +4,7 @@ use Rattle.std.proofs.lemmas.List.{get_or_default}
 use Rattle.output_copies.proofs.calls.each_at_once.Goals as goal
 
 pub each_from-requires-clause-accepts : goal.each_from-requires-clause-accepts
-each_from-requires-clause-accepts g c = λ i d less p same.
+each_from-requires-clause-accepts g c κs within = λ i d less p same.
     let here : i ≡ 0 + i = omega arith in
     subst (λ n. g.F.Fn.pre c.args.f.now (n, (p, tt))) here (c.requires.accepts i p less (same ∙ get_or_default c.args.values.now i d p.now less))
 

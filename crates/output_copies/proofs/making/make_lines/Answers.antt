@@ -62,7 +62,7 @@ pub returns-in_err-fill_front-clause-ends : goal.returns-in_err-fill_front-claus
 returns-in_err-fill_front-clause-ends g c =
     let x = c.in_err-fill_front.field-0.0 in
     ends_so g.S.Scene.told (g.F.Folder.faults c.args.desk.now.view) _ 0 0 x c.from_residual.result (err_is c.from_residual.result x c.from_residual.ensures)
-    (subst (λ (o : Option Files). MayEnd o (g.F.Folder.faults c.args.desk.now.view) (g.F.Folder.faults c.fill_front.new.folder) 0 0 (Err x)) (sym c.requires.ready.told_is) c.in_err-fill_front.ensures.ends)
+    (subst (λ (o : Option Files). MayEnd {T = Unit {0}} o (g.F.Folder.faults c.args.desk.now.view) (g.F.Folder.faults c.fill_front.new.folder) 0 0 (Err x)) (sym c.requires.ready.told_is) c.in_err-fill_front.ensures.ends)
 
 pub returns-clause-ends : goal.returns-clause-ends
 returns-clause-ends g c = ends_ok tt g.S.Scene.told _ _ 0 0 c.in_ok-fill_front.ensures.ends.cause.folder_later (omega arith)

@@ -47,6 +47,14 @@ pack-requires-clause-range g c =
     (are_held t.plan c.args.task.now.packing c.rules.ensures.kept c.requires.task.output lines.band (take t.plan.size.w (drop ((c.loop-line.line - lines.first) * t.plan.size.w) c.args.samples.now)) g.S.Scene.told t.cat t.id c.requires.part.band
     (row_held g.S.Scene.told t.cat t.id t.plan lines.band (lines_rect t.plan.size lines.first lines.end) c.args.samples.now (lines_read g.S.Scene.told t.cat t.id t.plan lines c.args.samples.now c.requires.read) (c.loop-line.line - lines.first) (omega (arith, c.loop-line-test.true))))
 
+pub pack-requires-clause-bytes : goal.pack-requires-clause-bytes
+pack-requires-clause-bytes g c =
+    let p = c.args.task.now.translation.now.plan in
+    let so_far = c.loop-line.invariant in
+    let within = place_within (length p.bands) c.args.lines.band (c.loop-line.line - c.args.top) c.args.task.now.rows c.requires.part.band (omega (arith, c.requires.few, c.requires.top, c.loop-line-test.true)) in
+    let place : c.place_of-place.result ≡ place_in (length c.args.task.now.translation.now.plan.bands) c.args.lines.band (c.loop-line.line - c.args.top) = c.place_of-place.ensures.place ∙ ap (λ n. place_in n c.args.lines.band (c.loop-line.line - c.args.top)) c.count-bands.ensures.count in
+    so_far.packs.each c.place_of-place.result _ (omega (arith, within, place, so_far.packs.long))
+
 pub loop-line-init : goal.loop-line-init
 loop-line-init g c = record { packs = c.requires.packs; made = c.requires.made; here = λ y low less. absurd (omega arith) }
 
@@ -70,7 +78,7 @@ loop-line-preserved g c =
       whole = lined_whole w y bytes lined;
     } in
     rw place (record {
-      packs = packs_set t.plan w c.args.task.now.rows c.loop-line.block c.pack.new.block c.loop-line.packed (place_in (length t.plan.bands) k (y - c.args.top)) bytes so_far.packs c.pack.ensures.block (c.pack.ensures.len ∙ so_far.packs.each _ _ (omega (arith, within, so_far.packs.long)));
+      packs = packs_set t.plan w c.args.task.now.rows c.loop-line.block c.pack.new.block c.loop-line.packed (place_in (length t.plan.bands) k (y - c.args.top)) bytes so_far.packs c.pack.ensures.block (c.pack.ensures.len ∙ so_far.packs.each c.place_of-place.result _ (omega (arith, within, place, so_far.packs.long)));
       made = record {
         above = λ b v band low less. made_there told t.cat t.id t.plan w c.args.top c.loop-line.packed k y bytes c.requires.part.band (omega arith) b v band low (λ same line. absurd (omega arith)) (so_far.made.above b v band low less);
         beside = λ b v less low high. made_there told t.cat t.id t.plan w c.args.top c.loop-line.packed k y bytes c.requires.part.band (omega arith) b v (omega (arith, c.requires.part.band)) (omega arith) (λ same line. absurd (omega arith)) (so_far.made.beside b v less low high);

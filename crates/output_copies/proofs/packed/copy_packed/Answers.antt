@@ -107,10 +107,10 @@ loop-line-preserved g c =
     let copied = c.in_ok-copy_round.ensures in
     let put = c.in_ok-told-2.ensures.ends told (g.F.Folder.faults c.copy_round.new.folder) in
     let names : g.F.Folder.names c.copy_round.new.folder ≡ g.F.Folder.names c.args.folder.now = copied.names ∙ before.names in
-    let all : length c.loop-line.workers ≡ c.len-count.result - 1 + 1 = omega (arith, before.count, c.requires.some, c.len-count.ensures) in
-    let next = last_end c.extent_of-height.result (cut_of w).blocks rows c.loop-line.line (length c.loop-line.workers) c.len-count.result c.portion_of.result.end c.portion_of.ensures.end c.extent_of-height.ensures.extent all in
+    let all : length c.loop-line.workers ≡ length c.args.workers.now - 1 + 1 = omega (arith, before.count, c.requires.some) in
+    let next = last_end c.extent_of-height.result (cut_of w).blocks rows c.loop-line.line (length c.loop-line.workers) (length c.args.workers.now) c.portion_of-line.result.end c.portion_of-line.ensures.end c.extent_of-height.ensures.extent all in
     record {
-      below = omega (arith, c.portion_of.ensures.within);
+      below = omega (arith, c.portion_of-line.ensures.within);
       workers = copied.workers;
       count = c.copy_round.auto.workers ∙ before.count;
       empty = copied.empty;
@@ -156,10 +156,10 @@ loop-line-smaller g c =
     let rows = c.args.task.now.rows in
     let before = c.loop-line.invariant in
     let extent = c.extent_of-height.ensures.extent in
-    let all : length c.loop-line.workers ≡ c.len-count.result - 1 + 1 = omega (arith, before.count, c.requires.some, c.len-count.ensures) in
+    let all : length c.loop-line.workers ≡ length c.args.workers.now - 1 + 1 = omega (arith, before.count, c.requires.some) in
     let more = top_more (cut_of w).blocks rows c.loop-line.line (length c.loop-line.workers) (omega (arith, c.loop-line-test.true, extent)) c.requires.task.some_rows (omega (arith, before.count, c.requires.some)) in
-    let next = last_end c.extent_of-height.result (cut_of w).blocks rows c.loop-line.line (length c.loop-line.workers) c.len-count.result c.portion_of.result.end c.portion_of.ensures.end extent all in
-    omega (arith, more, next, c.portion_of.ensures.within)
+    let next = last_end c.extent_of-height.result (cut_of w).blocks rows c.loop-line.line (length c.loop-line.workers) (length c.args.workers.now) c.portion_of-line.result.end c.portion_of-line.ensures.end extent all in
+    omega (arith, more, next, c.portion_of-line.ensures.within)
 
 pub returns-clause-filled : goal.returns-clause-filled
 returns-clause-filled g c =

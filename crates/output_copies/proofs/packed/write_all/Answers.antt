@@ -58,7 +58,7 @@ returns-in_err-write_made-clause-ends g c = λ before early answers.
     let told = g.F.Folder.names c.args.folder.now in
     let x = c.in_err-write_made.field-0.0 in
     ends_so told before (g.F.Folder.faults c.write_made.new.folder) 0 0 x c.from_residual.result (err_is c.from_residual.result x c.from_residual.ensures)
-    (subst (λ (o : Option Files). MayEnd o before (g.F.Folder.faults c.write_made.new.folder) 0 0 (Err x)) so_far.names
+    (subst (λ (o : Option Files). MayEnd {T = Unit {0}} o before (g.F.Folder.faults c.write_made.new.folder) 0 0 (Err x)) so_far.names
     (c.in_err-write_made.ensures.ends before
     (ends_later g.S.Scene.told before (g.F.Folder.faults c.args.folder.now) (g.F.Folder.faults c.loop-at.folder) 0 0 _ so_far.later
     (answer_kept g.F.Folder g.S.Scene.told g.S.Scene.cat t.cat t.id t.plan c.args.task.now.packing c.args.task.now.form c.args.task.now.rows c.args.task.now.step before (g.F.Folder.faults c.args.folder.now) c.loop-at.at c.args.workers.now c.loop-at.workers answers so_far.written (omega (arith, so_far.written.count, c.loop-at-test.true)) _))))
@@ -75,7 +75,7 @@ pub returns-in_err-write_made-clause-workers : goal.returns-in_err-write_made-cl
 returns-in_err-write_made-clause-workers g c =
     let t = c.args.task.now.translation.now in
     written_ready g.F.Folder g.S.Scene.told g.S.Scene.cat t.cat t.id t.plan c.args.task.now.packing c.args.task.now.form c.args.task.now.rows c.args.task.now.step c.args.first (c.loop-at.at + 1) c.args.workers.now (slice_set c.loop-at.workers c.loop-at.at c.write_made.new.worker) c.requires.done
-    (written_more g.F.Folder g.S.Scene.told g.S.Scene.cat t.cat t.id t.plan c.args.task.now.packing c.args.task.now.form c.args.task.now.rows c.args.task.now.step c.loop-at.at c.args.workers.now c.loop-at.workers c.write_made.new.worker c.loop-at-test.true c.write_made.ensures.worker c.loop-at.invariant.written)
+    (written_more g.F.Folder g.S.Scene.told g.S.Scene.cat t.cat t.id t.plan c.args.task.now.packing c.args.task.now.form c.args.task.now.rows c.args.task.now.step c.loop-at.at c.args.workers.now c.loop-at.workers c.write_made.new.worker (omega (arith, c.loop-at.invariant.written.count, c.loop-at-test.true)) c.write_made.ensures.worker c.loop-at.invariant.written)
 
 pub loop-at-preserved : goal.loop-at-preserved
 loop-at-preserved g c =
@@ -88,7 +88,7 @@ loop-at-preserved g c =
           (subst (λ (n : ℕ). AreBlocksWritten (g.F.Folder.names c.write_made.new.folder) t.cat t.id t.plan w (cut_of w).by_columns c.write_made.new.target n)
           (top_is c.extent_of-extent.result (cut_of w).blocks c.args.task.now.rows c.args.first (c.loop-at.at + 1) c.portion_of-portion.result.end c.portion_of-portion.ensures.end c.extent_of-extent.ensures.extent) o.written);
       empty = o.empty;
-      written = written_more g.F.Folder g.S.Scene.told g.S.Scene.cat t.cat t.id t.plan c.args.task.now.packing c.args.task.now.form c.args.task.now.rows c.args.task.now.step c.loop-at.at c.args.workers.now c.loop-at.workers c.write_made.new.worker c.loop-at-test.true o.worker so_far.written;
+      written = written_more g.F.Folder g.S.Scene.told g.S.Scene.cat t.cat t.id t.plan c.args.task.now.packing c.args.task.now.form c.args.task.now.rows c.args.task.now.step c.loop-at.at c.args.workers.now c.loop-at.workers c.write_made.new.worker (omega (arith, c.loop-at.invariant.written.count, c.loop-at-test.true)) o.worker so_far.written;
       name = o.name ∙ so_far.name;
       names = o.names ∙ so_far.names;
       later = omega (arith, so_far.later, o.later);
@@ -100,7 +100,7 @@ returns-clause-written g c =
     let w = c.args.task.now.packing in
     let rows = c.args.task.now.rows in
     let so_far = c.loop-at.invariant in
-    let all : c.loop-at.at ≡ length c.args.workers.now = omega (arith, so_far.written.count, c.len-count.ensures, c.loop-at-test.false, c.loop-at.auto.at-end) in
+    let all : c.loop-at.at ≡ length c.args.workers.now = omega (arith, so_far.written.count, c.loop-at-test.false, c.loop-at.auto.at-end) in
     subst (λ (o : Option Files). AreBlocksWritten o t.cat t.id t.plan w (cut_of w).by_columns c.loop-at.target (top_of (cut_of w).blocks rows c.args.first (length c.args.workers.now))) (sym so_far.names)
     (subst (λ (n : ℕ). AreBlocksWritten (g.F.Folder.names c.args.folder.now) t.cat t.id t.plan w (cut_of w).by_columns c.loop-at.target (top_of (cut_of w).blocks rows c.args.first n)) all so_far.blocks)
 

@@ -29,7 +29,7 @@ returns-in_err-answer-clause-ends g c = λ before ends.
     let told = g.F.Folder.names c.args.folder.now in
     let x = c.in_err-answer.field-0.0 in
     ends_so told before (g.F.Folder.faults c.args.folder.now) 0 0 x c.from_residual.result (err_is c.from_residual.result x c.from_residual.ensures)
-    (subst (λ (o : Option Files). MayEnd o before (g.F.Folder.faults c.args.folder.now) 0 0 (Err x)) c.requires.told
+    (subst (λ (o : Option Files). MayEnd {T = Unit {0}} o before (g.F.Folder.faults c.args.folder.now) 0 0 (Err x)) c.requires.told
     (subst (λ (r : Result (Unit {0}) Fault). MayEnd g.S.Scene.told before (g.F.Folder.faults c.args.folder.now) 0 0 r) (sym c.replace-answer.ensures.value ∙ c.in_err-answer.was {u = tt}) ends))
 
 pub returns-in_err-answer-clause-changed : goal.returns-in_err-answer-clause-changed

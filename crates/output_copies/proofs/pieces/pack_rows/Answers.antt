@@ -45,6 +45,14 @@ pack_piece-requires-clause-range g c =
     (are_held t.plan c.args.task.now.packing c.rules.ensures.kept c.requires.task.output piece.band (take wide (drop ((c.loop-line.line - piece.first) * wide) c.args.samples.now)) g.S.Scene.told t.cat t.id c.requires.piece.band
     (piece_held g.S.Scene.told t.cat t.id t.plan piece c.args.samples.now c.requires.read c.loop-line.line (omega arith) c.loop-line-test.true))
 
+pub pack_piece-requires-clause-bytes : goal.pack_piece-requires-clause-bytes
+pack_piece-requires-clause-bytes g c =
+    let p = c.args.task.now.translation.now.plan in
+    let so_far = c.loop-line.invariant in
+    let within = place_within (length p.bands) c.args.piece.band (c.loop-line.line - c.args.top) c.args.task.now.rows c.requires.piece.band (omega (arith, c.requires.few, c.requires.top, c.loop-line-test.true)) in
+    let place : c.place_of-place.result ≡ place_in (length c.args.task.now.translation.now.plan.bands) c.args.piece.band (c.loop-line.line - c.args.top) = c.place_of-place.ensures.place ∙ ap (λ n. place_in n c.args.piece.band (c.loop-line.line - c.args.top)) c.count-bands.ensures.count in
+    so_far.packs.each c.place_of-place.result _ (omega (arith, within, place, so_far.packs.long))
+
 pub loop-line-init : goal.loop-line-init
 loop-line-init g c = record { packs = c.requires.packs; made = c.requires.made; done = λ y low high. absurd (omega arith); rest = c.requires.fronts }
 
@@ -73,7 +81,7 @@ loop-line-preserved g c =
     let front : HoldsFront g.S.Scene.told c.args.task.now.translation.now.cat c.args.task.now.translation.now.id c.args.task.now.translation.now.plan false c.args.piece.band c.loop-line.line c.args.piece.right (in_bytes c.args.task.now.packing c.pack_piece.new.self) =
     piece_front told t.cat t.id t.plan piece c.args.samples.now c.requires.read y (omega arith) c.loop-line-test.true c.nth_row-row.result.now (in_bytes w old) (in_bytes w bytes) c.requires.piece.columns c.nth_row-row.ensures.row was (omega (arith, width, spots, length_in w old)) (so_far.rest y (omega arith) c.loop-line-test.true) in
     rw place (record {
-      packs = packs_set t.plan w c.args.task.now.rows c.loop-line.block c.pack_piece.new.block packed (place_in (length t.plan.bands) k (y - top)) bytes so_far.packs c.pack_piece.ensures.block (c.pack_piece.ensures.len ∙ so_far.packs.each _ _ (omega (arith, within, place)));
+      packs = packs_set t.plan w c.args.task.now.rows c.loop-line.block c.pack_piece.new.block packed (place_in (length t.plan.bands) k (y - top)) bytes so_far.packs c.pack_piece.ensures.block (c.pack_piece.ensures.len ∙ so_far.packs.each c.place_of-place.result _ (omega (arith, within, place)));
       made = record {
         above = λ b v band low less. made_there told t.cat t.id t.plan w top packed k y bytes has_band low_top b v band low (λ same line. absurd (omega arith)) (so_far.made.above b v band low less);
         beside = λ b v less low high. made_there told t.cat t.id t.plan w top packed k y bytes has_band low_top b v (omega (arith, has_band)) (omega (arith, c.requires.top)) (λ same line. absurd (omega arith)) (so_far.made.beside b v less low high);

@@ -39,6 +39,14 @@ pack_column-requires-clause-range g c =
     are_held t.plan w c.rules.ensures.kept c.requires.task.output 0 c.index-records-at.result.samples g.S.Scene.told t.cat t.id some
     (front_held g.S.Scene.told t.cat t.id t.plan true 0 (c.args.portion.top + row) t.plan.size.h c.index-records-at.result.samples (block.count ∙ column_spots t.plan w c.rules.ensures.kept c.requires.task.output c.requires.columns) front)
 
+pub pack_column-requires-clause-bytes : goal.pack_column-requires-clause-bytes
+pack_column-requires-clause-bytes g c =
+    let p = c.args.task.now.translation.now.plan in
+    let some = c.rules.ensures.kept.some_band in
+    let within = place_within (length p.bands) 0 (c.loop-x.x - c.args.portion.top) c.args.task.now.rows some (omega (arith, c.requires.few, c.loop-x-test.true)) in
+    let place : c.place_of-place.result ≡ place_in (length c.args.task.now.translation.now.plan.bands) 0 (c.loop-x.x - c.args.portion.top) = c.place_of-place.ensures.place ∙ ap (λ n. place_in n 0 (c.loop-x.x - c.args.portion.top)) c.count-bands.ensures.count in
+    c.loop-x.invariant.each c.place_of-place.result _ (omega (arith, within, place, c.requires.long, c.loop-x.auto.packed))
+
 pub loop-x-init : goal.loop-x-init
 loop-x-init g c = record { each = c.requires.each; done = λ y low less. absurd (omega arith) }
 
@@ -69,7 +77,7 @@ loop-x-preserved g c =
       whole = c.pack_column.ensures.whole;
     } in
     rw place (record {
-      each = All-set (λ (b : List ℕ). length b ≡ block_len w) packed (place_in (length t.plan.bands) 0 (x - top)) bytes (c.pack_column.ensures.len ∙ so_far.each _ _ (omega (arith, within, place))) so_far.each;
+      each = All-set (λ (b : List ℕ). length b ≡ block_len w) packed (place_in (length t.plan.bands) 0 (x - top)) bytes (c.pack_column.ensures.len ∙ so_far.each c.place_of-place.result _ (omega (arith, within, place))) so_far.each;
       done = λ v low less. elim (cases_lt v x) [
         | inl before ↦ made_there told t.cat t.id t.plan w top packed 0 x bytes some (omega arith) 0 v some low (λ same line. absurd (omega arith)) (so_far.done v low before)
         | inr last ↦ (

@@ -1,4 +1,4 @@
-use Rattle.std.proofs.Common.{◌≡◌, ◌∙◌, ◌-◌, ◌*◌, ap, sym, subst, arith, length}
+use Rattle.std.proofs.Common.{◌≡◌, ◌∙◌, ◌≤◌, ◌-◌, ◌*◌, ap, sym, subst, arith, length, ℕ}
 use Rattle.std.proofs.Math.Nat.{mul_comm}
 use Rattle.geotransform.specs.declared.types.PixelType.{PixelType}
 use Rattle.band_blocks.specs.Blocks.{AreIn, BlockView}
@@ -8,12 +8,13 @@ use Rattle.output_copies.proofs.Fronts.{column_front, column_held, long_written}
 use Rattle.output_copies.proofs.Packs.{are_held, column_spots}
 use Rattle.output_copies.proofs.records.put_column.Goals as goal
 
+-- so many rows of a width fit into samples that have them
+rows_fit : (n high wide size : ℕ) → n ≡ high → size ≡ wide * high → n * wide ≤ size
+rows_fit n high wide size is long = let same = ap (λ k. k * wide) is in let turned = mul_comm high wide in omega (arith, same, turned, long)
+
 pub gather-requires-clause-room : goal.gather-requires-clause-room
 gather-requires-clause-room g c =
-    let long = c.requires.read.long in
-    let low : length c.split_at_mut-run.result.0.now ≡ c.args.piece.end - c.args.piece.first = c.split_at_mut-run.ensures.front_len in
-    let turned = mul_comm (c.args.piece.end - c.args.piece.first) (c.args.piece.right - c.args.piece.left) in
-    omega (arith, ap (λ n. n * (c.args.piece.right - c.args.piece.left)) low, turned, long)
+    rows_fit (length c.split_at_mut-run.result.0.now) (c.args.piece.end - c.args.piece.first) (c.args.piece.right - c.args.piece.left) (length c.args.samples.now) c.split_at_mut-run.ensures.front_len c.requires.read.long
 
 pub write_run-requires-clause-within : goal.write_run-requires-clause-within
 write_run-requires-clause-within g c =
