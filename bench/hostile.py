@@ -365,6 +365,9 @@ def lists():
     turns = Text((b"a/../" * 817 + b"one.bil\n", 16_000), (b"none.bil\n", 1))
     row("list: names that go down and up 817 times", {"x.txt": turns, **ONE}, words, 1,
         "ERROR 4: none.bil: no such file")
+    turns = Text((b"a/b/../../" * 408 + b"one.bil\n", 16_000), (b"none.bil\n", 1))
+    row("list: names that go down two folders and up two 408 times", {"x.txt": turns, **ONE}, words, 1,
+        "ERROR 4: none.bil: no such file")
     slashes = Text((b"/" * 4087 + b"none.bil\n", 16_000))
     row("list: names of 4,087 slashes", {"x.txt": slashes}, words, 1, "ERROR 4: /none.bil: no such file")
 
