@@ -3,7 +3,7 @@ use Rattle.std.proofs.lemmas.List.{take_all}
 use Rattle.catalog.specs.Mosaics.{distinct}
 use Rattle.catalog.specs.Listed.{HasListed}
 use Rattle.catalog.proofs.Listings.{next_item}
-use Rattle.catalog.proofs.mosaic_head.distinct_files.Goals as goal
+use Rattle.catalog.proofs.mosaic_head.looked_up.Goals as goal
 
 pub loop-name-preserved : goal.loop-name-preserved
 loop-name-preserved c =

@@ -1,6 +1,6 @@
 use Rattle.std.proofs.Common.{take}
 use Rattle.catalog.specs.Listed.{HasListed}
-use Rattle.catalog.proofs.mosaic_head.distinct_files.Given as goal
+use Rattle.catalog.proofs.mosaic_head.looked_up.Given as goal
 
 -- the names so far are listed
 abbrev pub invariant-loop-name : goal.invariant-loop-name
