@@ -12,8 +12,7 @@ each_at_once-requires-clause-accepts g c κs within = λ i p less same.
     let worker : IsWorker g.F.Folder g.S.Scene.told g.S.Scene.cat t.cat t.id t.plan c.args.task.now.packing c.args.task.now.form c.args.task.now.rows c.args.task.now.step p.now =
     subst (IsWorker g.F.Folder g.S.Scene.told g.S.Scene.cat t.cat t.id t.plan c.args.task.now.packing c.args.task.now.form c.args.task.now.rows c.args.task.now.step) (sym same) (c.requires.workers i p.now less) in
     let inside : i < length c.args.workers.now = less in
-    let few : length c.args.workers.now ≤ most_workers = c.requires.few in
-    (
+    let few : length c.args.workers.now ≤ most_workers = c.requires.few in (
       (
         record { shared = c.type_bounds.sync-R.shared },
         param_send 2 _ (arg_send (layout g.row.S) no (param 2 g.row.S) c.type_bounds.send-S),
