@@ -334,28 +334,22 @@ static LONG_TURNS: [Turn; 3] = [
 const LONG_TEXT: &str =
     "Input file size is 32768, 65\n0...10...20...30...40...50...60...70...80...90...100 - done.\n";
 
-// The first work of which a call's failing isn't met: a copy of the long lines under this name, with this header.
-fn first_unmet_long<R: Threads + Sync + Abort>(
-    rt: &R,
-    alloc: Global,
-    line: &str,
-    name: &str,
-    header: &[u8],
-) -> Option<usize> {
+// The first work of which a call's failing isn't met: a copy of the long lines.
+fn first_unmet_long<R: Threads + Sync + Abort>(rt: &R, alloc: Global) -> Option<usize> {
     let bytes = joined(rt, alloc, &[(samples(), LONG_TIMES)]);
     let bytes = bytes.as_slice();
     let files: [FileOf<'_>; 4] = [
         ("long.bil", bytes),
         ("long.hdr", LONG),
-        (name, b"old data"),
+        ("out.bil", b"old data"),
         ("out.hdr", b"old header"),
     ];
     let outputs: [Output<'_>; 2] = [
-        (name, b"old data", bytes),
-        ("out.hdr", b"old header", header),
+        ("out.bil", b"old data", bytes),
+        ("out.hdr", b"old header", LONG_MADE),
     ];
     let works: [Work<'_>; 1] = [Work {
-        line,
+        line: "gdal_translate --workers 2 long.bil out.bil",
         text: LONG_TEXT,
         told: "",
         outputs: &outputs,
@@ -363,27 +357,40 @@ fn first_unmet_long<R: Threads + Sync + Abort>(
     first_unmet(rt, alloc, &files, &works, &LONG_TURNS)
 }
 
-const LONG_LINES: &str = "gdal_translate --workers 2 long.bil out.bil";
-
-const LONG_STRIPS: &str = "gdal_translate --workers 2 long.bil out.bip";
+// The same of a copy in which bands lie pixel by pixel.
+fn first_unmet_woven<R: Threads + Sync + Abort>(rt: &R, alloc: Global) -> Option<usize> {
+    let bytes = joined(rt, alloc, &[(samples(), LONG_TIMES)]);
+    let bytes = bytes.as_slice();
+    let files: [FileOf<'_>; 4] = [
+        ("long.bil", bytes),
+        ("long.hdr", LONG),
+        ("out.bip", b"old data"),
+        ("out.hdr", b"old header"),
+    ];
+    let outputs: [Output<'_>; 2] = [
+        ("out.bip", b"old data", bytes),
+        ("out.hdr", b"old header", LONG_WOVEN),
+    ];
+    let works: [Work<'_>; 1] = [Work {
+        line: "gdal_translate --workers 2 long.bil out.bip",
+        text: LONG_TEXT,
+        told: "",
+        outputs: &outputs,
+    }];
+    first_unmet(rt, alloc, &files, &works, &LONG_TURNS)
+}
 
 // Each call of the folder fails in turn while two workers make long lines, and each of the output. What was printed by
 // then is the first part of what a whole run prints.
 #[test]
 fn each_failing_call_of_two_workers(rt: HostRuntime) {
-    none_wrong(
-        &rt,
-        first_unmet_long(&rt, rt.alloc(), LONG_LINES, "out.bil", LONG_MADE),
-    );
+    none_wrong(&rt, first_unmet_long(&rt, rt.alloc()));
 }
 
 // The same while two workers read long lines, and others are written.
 #[test]
 fn each_failing_call_of_two_workers_that_read_ahead(rt: HostRuntime) {
-    none_wrong(
-        &rt,
-        first_unmet_long(&rt, rt.alloc(), LONG_STRIPS, "out.bip", LONG_WOVEN),
-    );
+    none_wrong(&rt, first_unmet_woven(&rt, rt.alloc()));
 }
 
 // A raster of one line, and a mosaic that shows it in each of its two: the smallest of which two workers read a line
