@@ -305,7 +305,7 @@ def sources():
 
 def alike(number):
     """A source whose name has two letters for each of 18 bits of a number. Where each letter counts 81 times as much as
-    the next one, `az` and `b)` make the same number, and so do all names of such parts."""
+    the next one, as it did once, `az` and `b)` make the same number, and so do all names of such parts."""
     name = b"".join(b"b)" if number >> bit & 1 else b"az" for bit in range(18))
     return NUMBERED.replace(b"{}", name)
 
@@ -316,6 +316,12 @@ def names_of_sources():
         return Text((SOURCES, 1), (source, numbers), (SOURCES_END, 1))
 
     document("the most sources of names that fall", named(b"{}.bil", range(999_999, 999_999 - MOST, -1)))
+    again = NUMBERED.replace(b"{}", b"999999")
+    document("the most sources of names that fall, the first of which stands again at the end", Text(
+        (SOURCES, 1), (NUMBERED, range(999_999, 1_000_000 - MOST, -1)), (again, 1), (SOURCES_END, 1)))
+    tiles, between = (NUMBERED, range(MOST // 3)), (b"</VRTRasterBand><VRTRasterBand>", 1)
+    document("three bands of the same 87,381 sources", Text(
+        (SOURCES, 1), tiles, between, tiles, between, tiles, (SOURCES_END, 1)))
     document("the most sources of names that make one number", Text(
         (SOURCES, 1), (alike, range(MOST - 1, -1, -1)), (SOURCES_END, 1)))
     document("sources of names of 1,360 folders up", named(b"../" * 1360 + b"{}.bil", range(16_000)))
@@ -358,6 +364,9 @@ def lists():
     row("list: empty lines with two line ends", {"x.txt": ends}, words, 1, "ERROR 1: no input fits")
     turns = Text((b"a/../" * 817 + b"one.bil\n", 16_000), (b"none.bil\n", 1))
     row("list: names that go down and up 817 times", {"x.txt": turns, **ONE}, words, 1,
+        "ERROR 4: none.bil: no such file")
+    turns = Text((b"a/b/../../" * 408 + b"one.bil\n", 16_000), (b"none.bil\n", 1))
+    row("list: names that go down two folders and up two 408 times", {"x.txt": turns, **ONE}, words, 1,
         "ERROR 4: none.bil: no such file")
     slashes = Text((b"/" * 4087 + b"none.bil\n", 16_000))
     row("list: names of 4,087 slashes", {"x.txt": slashes}, words, 1, "ERROR 4: /none.bil: no such file")

@@ -206,6 +206,7 @@ NAMED_FILES = {
 POINTS = b"0 0\n9 9\n2 1\n"
 # what is published, in its order; a file whose bytes are known with them
 RASTER = dict.fromkeys(("out.bil", "out.hdr"))
+WOVEN = dict.fromkeys(("out.bip", "out.hdr"))
 FILLED = {"out.bil": b"\5\0\xff\xff\t\0", "out.hdr": None}
 ZEROS = {"out.bil": bytes(65 * 31250), "out.hdr": None}
 MOSAIC = {"out.vrt": None}
@@ -234,6 +235,8 @@ SHRINKS = (b"2 1\n", {"SHRUNK_FILE": "a.bil", "SHRUNK_TO": "11"}, b"ERROR 3: a.b
 STRICT = (b"", {}, b"ERROR 1: two.bil: skipped (bands)\n")
 # two lanes that read beside each other, and a reader that goes on while lines are written
 IS_SHARED = (b"", {"FEWEST_THREADS": "2"}, b"")
+# two workers that make lines beside each other, one of them in the thread that writes all
+IS_MADE = (b"", {"FEWEST_THREADS": "1"}, b"")
 # the same where the system starts no thread, so that the one that calls does their work
 NO_THREADS = (b"", {"NO_THREADS": "1"}, b"")
 
@@ -276,8 +279,9 @@ JOBS = (
     ("sources over each other, one block", "gdal_translate --blocks 1 outer.vrt out.bil", b"", FILLED),
     ("sources over each other", "gdal_translate --blocks 64 outer.vrt out.bil", b"", FILLED),
     ("lines that one of two workers reads", "gdal_translate --workers 2 a.bil out.bil", b"", RASTER),
-    ("lines that two workers share", "gdal_translate --workers 2 wide.bil out.bil", IS_SHARED, ZEROS),
+    ("lines that two workers make", "gdal_translate --workers 2 wide.bil out.bil", IS_MADE, ZEROS),
     ("the same, and no thread can be started", "gdal_translate --workers 2 wide.bil out.bil", NO_THREADS, ZEROS),
+    ("lines that two workers share", "gdal_translate --workers 2 wide.bil out.bip", IS_SHARED, WOVEN),
     ("nested mosaics over an old raster", "gdal_translate --blocks 1 o.vrt out.bil", b"", Over(RASTER)),
     ("sources over each other over an old raster", "gdal_translate outer.vrt out.bil", b"", Over(FILLED)),
     ("a grid to a grid", "gdal_translate g.asc out.asc", b"", {"out.asc": None}),

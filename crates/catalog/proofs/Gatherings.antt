@@ -1,4 +1,4 @@
--- The names of a mosaic's sources, gathered: whether they rise, or have other numbers.
+-- The names of a mosaic's sources, gathered: whether they rise, or have other hashes.
 use Rattle.std.proofs.Common.{◌≡◌, ◌∙◌, ap, sym, refl, true, false, cond, not, ◌||◌, ◌&&◌, zero, suc, ◌<◌, ◌==◌, ℕ, Bool, List, [], ◌∷◌, ◌++◌, map, drop, length, Some, bytes_eq, arith}
 use Rattle.std.specs.Prelude.{slice_get}
 use Rattle.std.specs.declared.cmp.Ordering.{Ordering}
@@ -10,10 +10,11 @@ use Rattle.std.proofs.lemmas.Bool.Decides.{nat_tests}
 use Rattle.std.proofs.lemmas.Map.Text.{is_eq-slice_cmp}
 use Rattle.std.proofs.lemmas.Slice.Eq.{bytes_eq-Decides}
 use Rattle.lists_and_answers.specs.Lists.{is_among, with_name}
+use Rattle.vrt_markup.specs.Hashes.{text_hash}
 use Rattle.vrt_markup.specs.Keys.{apart}
 use Rattle.catalog.specs.declared.gathered.Gathered.{Gathered}
 use Rattle.catalog.specs.Mosaics.{distinct}
-use Rattle.catalog.specs.Gathered.{HasGathered, text_number, last_order, order_behind, rises, is_rising}
+use Rattle.catalog.specs.Gathered.{HasGathered, last_order, order_behind, rises, is_rising}
 use Rattle.catalog.proofs.Mosaics.{distinct_with, among_distinct}
 
 -- no name yet
@@ -130,7 +131,7 @@ pub rising_distinct : (ns : List (List ℕ)) → is_rising ns ≡ true → disti
 rising_distinct [] h = refl
 rising_distinct (n ∷ ns) h = rises_distinct n ns h
 
--- names whose numbers differ are distinct
+-- names whose hashes differ are distinct
 or_none : (a b : Bool) → (a || b) ≡ false → (a ≡ false) × (b ≡ false)
 or_none false false h = (refl, refl)
 or_none false true h = absurd cc
@@ -147,24 +148,24 @@ number_flips m n = grind (arith, nat_tests)
 number_same : (n : ℕ) → (n == n) ≡ true
 number_same n = grind (arith, nat_tests)
 
-other_name : (n k : List ℕ) (same : Bool) → bytes_eq n k ≡ same → (text_number 0 n == text_number 0 k) ≡ false → bytes_eq n k ≡ false
-other_name n k true e differ =
-    let hit : (text_number 0 n == text_number 0 k) ≡ true = ap (λ m. text_number 0 n == text_number 0 m) (sym ((bytes_eq-Decides n k).0 e)) ∙ number_same (text_number 0 n) in
+other_name : (key : ℕ) (n k : List ℕ) (same : Bool) → bytes_eq n k ≡ same → (text_hash key n == text_hash key k) ≡ false → bytes_eq n k ≡ false
+other_name key n k true e differ =
+    let hit : (text_hash key n == text_hash key k) ≡ true = ap (λ m. text_hash key n == text_hash key m) (sym ((bytes_eq-Decides n k).0 e)) ∙ number_same (text_hash key n) in
     absurd cc
-other_name n k false e differ = e
+other_name key n k false e differ = e
 
-all_stay : (n : List ℕ) (ks : List (List ℕ)) → list_any (λ m. text_number 0 n == m) (map (text_number 0) ks) ≡ false → filter (λ k. not (bytes_eq n k)) ks ≡ ks
-all_stay n [] h = refl
-all_stay n (k ∷ ks) h =
-    let both = or_none (text_number 0 n == text_number 0 k) (list_any (λ m. text_number 0 n == m) (map (text_number 0) ks)) h in
-    ap (λ b. cond (not b) (k ∷ filter (λ k. not (bytes_eq n k)) ks) (filter (λ k. not (bytes_eq n k)) ks)) (other_name n k (bytes_eq n k) refl both.0)
-    ∙ ap (λ l. k ∷ l) (all_stay n ks both.1)
+all_stay : (key : ℕ) (n : List ℕ) (ks : List (List ℕ)) → list_any (λ m. text_hash key n == m) (map (text_hash key) ks) ≡ false → filter (λ k. not (bytes_eq n k)) ks ≡ ks
+all_stay key n [] h = refl
+all_stay key n (k ∷ ks) h =
+    let both = or_none (text_hash key n == text_hash key k) (list_any (λ m. text_hash key n == m) (map (text_hash key) ks)) h in
+    ap (λ b. cond (not b) (k ∷ filter (λ k. not (bytes_eq n k)) ks) (filter (λ k. not (bytes_eq n k)) ks)) (other_name key n k (bytes_eq n k) refl both.0)
+    ∙ ap (λ l. k ∷ l) (all_stay key n ks both.1)
 
-pub apart_distinct : (ns : List (List ℕ)) → apart (λ x y. x == y) (map (text_number 0) ns) ≡ true → distinct ns ≡ ns
-apart_distinct [] h = refl
-apart_distinct (n ∷ ns) h =
-    let both = and_both (list_any (λ m. text_number 0 n == m) (map (text_number 0) ns)) (apart (λ x y. x == y) (map (text_number 0) ns)) h in
-    ap (λ l. n ∷ filter (λ k. not (bytes_eq n k)) l) (apart_distinct ns both.1) ∙ ap (λ l. n ∷ l) (all_stay n ns both.0)
+pub apart_distinct : (key : ℕ) (ns : List (List ℕ)) → apart (λ x y. x == y) (map (text_hash key) ns) ≡ true → distinct ns ≡ ns
+apart_distinct key [] h = refl
+apart_distinct key (n ∷ ns) h =
+    let both = and_both (list_any (λ m. text_hash key n == m) (map (text_hash key) ns)) (apart (λ x y. x == y) (map (text_hash key) ns)) h in
+    ap (λ l. n ∷ filter (λ k. not (bytes_eq n k)) l) (apart_distinct key ns both.1) ∙ ap (λ l. n ∷ l) (all_stay key n ns both.0)
 
 -- what was gathered, each name once
 pub listed_apart : (own : List ℕ) (names : List (List ℕ)) (g : Gathered) → ((g.rising ≡ true → is_rising (drop 1 g.files) ≡ true) → distinct (drop 1 g.files) ≡ drop 1 g.files) → HasGathered own names g → g.files ≡ own ∷ distinct names

@@ -9,6 +9,7 @@ pub mod Gatherings
 pub mod Headers
 pub mod Heights
 pub mod Indexed
+pub mod Keepings
 pub mod Lengths
 pub mod Listings
 pub mod Loops

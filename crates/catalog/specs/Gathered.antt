@@ -1,5 +1,5 @@
 -- The files of a mosaic while the names of its sources are gathered.
-use Rattle.std.specs.Prelude.{◌≡◌, ℕ, ◌+◌, ◌*◌, ◌%◌, ◌&&◌, Bool, true, List, [], ◌∷◌, IfSome}
+use Rattle.std.specs.Prelude.{◌≡◌, ℕ, ◌&&◌, Bool, true, List, [], ◌∷◌, IfSome}
 use Rattle.std.specs.declared.cmp.Ordering.{Ordering}
 use Rattle.std.specs.declared.cmp.Ordering.TheVariants.{Greater}
 use Rattle.std.specs.Ordering.{is_gt, nat_cmp}
@@ -9,11 +9,6 @@ use Rattle.lists_and_answers.specs.Lists.{is_among}
 use Rattle.vrt_profile.specs.Values.{SourceValue}
 use Rattle.catalog.specs.declared.gathered.Gathered.{Gathered}
 use Rattle.catalog.specs.Mosaics.{distinct, source_name}
-
--- the number that the bytes of a text make, behind those of a number
-abbrev pub text_number : ℕ → List ℕ → ℕ
-text_number number [] = number
-text_number number (c ∷ cs) = text_number (number % 144115188075855872 * 81 + c) cs
 
 -- how a name compares with the last of some names
 abbrev pub last_order : List ℕ → List (List ℕ) → List ℕ → Ordering
@@ -41,6 +36,12 @@ pub record HasGathered (own : List ℕ) (names : List (List ℕ)) (g : Gathered)
   pub kept : List (List ℕ)
   pub files : g.files ≡ own ∷ kept
   pub rising : g.rising ≡ is_rising kept
+  pub same : distinct kept ≡ distinct names
+
+-- behind the own name some of the names stand, each of them at least once, and in the order in which it first stands
+pub record HasKept (own : List ℕ) (names listed : List (List ℕ)) : Type 0 where
+  pub kept : List (List ℕ)
+  pub files : listed ≡ own ∷ kept
   pub same : distinct kept ≡ distinct names
 
 -- the name of a source, if it has one, is that of one of the sources before it

@@ -1,14 +1,16 @@
-// The names of a mosaic's sources, which are distinct where they rise or where their numbers differ.
+// The names of a mosaic's sources, which are distinct where they rise or where their hashes differ.
 ghost use Rattle.std.specs.Prelude.{◌≡◌, ◌==◌, ◌++◌, ◌∷◌, ◌&&◌, [], true, false, List, ℕ, drop, map, IfOk, OnOk};
 ghost use Rattle.std.specs.Ordering.{is_eq, is_gt};
+ghost use Rattle.vrt_markup.specs.Hashes.{text_hash};
 ghost use Rattle.vrt_markup.specs.Keys.{apart};
 ghost use Rattle.catalog.specs.Mosaics.{distinct};
-ghost use Rattle.catalog.specs.Gathered.{HasGathered, text_number, is_rising, order_behind};
+ghost use Rattle.catalog.specs.Gathered.{HasGathered, is_rising, order_behind};
 
 use lists_and_answers::Items;
 use outside::{Name, Names};
 use std::alloc::{AllocError, Global};
 use std::cmp::Ordering;
+use vrt_markup::text_hash;
 
 /// The files of a mosaic so far: its own name and then names of sources, of which later ones may be
 /// earlier ones again; and whether each name of a source is greater than the one before it.
@@ -18,21 +20,6 @@ pub struct Gathered {
     pub rising: bool,
 }
 
-// The number that the bytes of a text make, each of which counts 81 times as much as the next one. So the numbers of
-// names that count files rise, or rise in a few stretches; and letters, digits and points, any two of which lie less
-// than 81 apart, make another number for each short name.
-fn text_number(text: &[u8]) -> u64
-    ensures number { result ≡ text_number 0 text.now }
-{
-    let mut number: u64 = 0;
-    let mut rest = text;
-    while let [c, more @ ..] = rest {
-        number = number % 0x0200_0000_0000_0000 * 81 + u64::from(*c);
-        rest = more;
-    }
-    number
-}
-
 // Whether names still rise with one more, which stands to the last one in this order; `before` says whether they rose.
 fn still_rises(before: bool, order: Ordering) -> bool
     ensures rises { result ≡ (before && is_gt order) }
@@ -40,8 +27,8 @@ fn still_rises(before: bool, order: Ordering) -> bool
     before && order.is_gt()
 }
 
-// Whether two names are one.
-fn are_same(a: &Name, b: &Name) -> bool
+/// Whether two names are one.
+pub fn are_same(a: &Name, b: &Name) -> bool
     ensures same { result ≡ true → a.now ≡ b.now }
 {
     a.is(b)
@@ -114,8 +101,7 @@ impl Gathered {
     }
 }
 
-// Whether no two of the numbers are the same: those that are stand side by side once they are sorted. Numbers often
-// stand in a few stretches that rise, and this sort keeps such stretches.
+// Whether no two of the numbers are the same: those that are stand side by side once they are sorted.
 fn differ(mut numbers: Vec<u64>) -> Result<bool, AllocError>
     ensures { IfOk result (λ b. b ≡ apart (λ x y. x == y) numbers.items) }
 {
@@ -125,19 +111,29 @@ fn differ(mut numbers: Vec<u64>) -> Result<bool, AllocError>
     Ok(numbers.len() == count)
 }
 
-// The number of each name.
-fn numbers_of(alloc: Global, names: &[Name]) -> Result<Vec<u64>, AllocError>
-    ensures numbers { IfOk result (λ numbers. numbers.items ≡ map (text_number 0) names.now) }
+// The hash of each name, with this key.
+fn hashes_of(alloc: Global, key: u64, names: &[Name]) -> Result<Vec<u64>, AllocError>
+    ensures hashes { IfOk result (λ hashes. hashes.items ≡ map (text_hash key) names.now) }
 {
-    let mut numbers = Vec::with_capacity(alloc, names.len())?;
+    let mut hashes = Vec::with_capacity(alloc, names.len())?;
     for name in names {
-        numbers.push(text_number(name.as_str().as_bytes()))?;
+        hashes.push(text_hash(key, name.as_str().as_bytes()))?;
     }
-    Ok(numbers)
+    Ok(hashes)
 }
 
-/// Whether names are told to be distinct, by their order where they rise, and else by their numbers.
-#[tactic(auto, using(crate::proofs::Gatherings::rising_distinct, crate::proofs::Gatherings::apart_distinct))]
+/// Whether names are told to be distinct by their hashes with this key.
+#[tactic(auto, using(crate::proofs::Gatherings::apart_distinct))]
+pub fn hashes_differ(alloc: Global, key: u64, names: &[Name]) -> Result<bool, AllocError>
+    ensures apart { IfOk result (λ b. b ≡ true → distinct names.now ≡ names.now) }
+{
+    let hashes = hashes_of(alloc, key, names)?;
+    let apart = differ(hashes)?;
+    Ok(apart)
+}
+
+/// Whether names are told to be distinct, by their order where they rise, and else by their hashes.
+#[tactic(auto, using(crate::proofs::Gatherings::rising_distinct))]
 pub fn are_apart(alloc: Global, rising: bool, names: &[Name]) -> Result<bool, AllocError>
     ensures apart { IfOk result (λ b. b ≡ true → (rising ≡ true → is_rising names.now ≡ true) →
         distinct names.now ≡ names.now) }
@@ -145,9 +141,7 @@ pub fn are_apart(alloc: Global, rising: bool, names: &[Name]) -> Result<bool, Al
     if rising {
         return Ok(true);
     }
-    let numbers = numbers_of(alloc, names)?;
-    let apart = differ(numbers)?;
-    Ok(apart)
+    hashes_differ(alloc, 0, names)
 }
 
 /// The names behind the first one.

@@ -20,6 +20,7 @@ mod mosaic_head;
 mod nodata;
 mod own_files;
 mod raw;
+mod repeats;
 mod walk;
 
 pub use catalog::{Catalog, open_all};

@@ -11,6 +11,7 @@ ghost use Rattle.catalog.specs.Heads.{all_resolved, names_within};
 
 use crate::driver::Content;
 use crate::gathered::{Gathered, are_apart, behind_first};
+use crate::repeats::{key_of, told_apart};
 use crate::{BandHead, Bands, Head, Kind, LimitKind, WalkFault};
 use geotransform::Size;
 use lists_and_answers::Items;
@@ -57,9 +58,8 @@ impl Listing {
     }
 }
 
-// The own name and some others, each once. Each name is looked up in a set of those before it, since a
-// document may have 262,144 sources.
-fn distinct_files(alloc: Global, own: &Name, names: &[Name]) -> Result<Names, AllocError>
+// The own name and some others, each once, for any names: each is looked up in a set of those before it.
+fn looked_up(alloc: Global, own: &Name, names: &[Name]) -> Result<Names, AllocError>
     ensures listed { IfOk result (λ files. files ≡ own.now ∷ distinct names.now) }
 {
     let mut listing = Listing::new(alloc, own)?;
@@ -67,6 +67,20 @@ fn distinct_files(alloc: Global, own: &Name, names: &[Name]) -> Result<Names, Al
         listing.add(alloc, name)?;
     }
     Ok(listing.files)
+}
+
+// The own name and some others, each once. Names that stand again are found by their hashes; where two that differ have
+// one hash, by hashes with a key of these names, and only where two have one then, too, is each looked up.
+fn distinct_files(alloc: Global, own: &Name, names: &[Name]) -> Result<Names, AllocError>
+    ensures listed { IfOk result (λ files. files ≡ own.now ∷ distinct names.now) }
+{
+    if let Some(files) = told_apart(alloc, 0, own, names)? {
+        return Ok(files);
+    }
+    if let Some(files) = told_apart(alloc, key_of(names), own, names)? {
+        return Ok(files);
+    }
+    looked_up(alloc, own, names)
 }
 
 // The files that were gathered, each once.

@@ -266,22 +266,32 @@ fn first_wrong<F: Folder>(
     Ok(rows.len())
 }
 
-const FILES: [(&str, &[u8]); 4] = [
+// A name and its bytes.
+type File<'a> = (&'a str, &'a [u8]);
+
+const FILES: [File<'static>; 4] = [
     ("a.bil", &[0; 12]),
     ("a.hdr", b"NROWS 6\nNCOLS 2\n"),
     ("b.bil", &[0; 12]),
     ("b.hdr", b"NROWS 3\nNCOLS 2\nNBANDS 2\n"),
 ];
 
-// The catalog of the two datasets.
-fn datasets(alloc: Global) -> Result<Catalog, Fail> {
+// A folder with these files.
+fn folder_of(alloc: Global, files: &[File<'_>]) -> Result<CalmFolder, Fail> {
     let mut folder = CalmFolder::new(alloc, Never);
-    for (name, bytes) in FILES {
+    for file in files {
+        let (name, bytes) = *file;
         folder.put(&Name::read(alloc, name)?, bytes)?;
     }
+    Ok(folder)
+}
+
+// The catalog of the datasets of these names, which stand among these files.
+fn catalog_of(alloc: Global, files: &[File<'_>], names: &[&str]) -> Result<Catalog, Fail> {
+    let mut folder = folder_of(alloc, files)?;
     let mut cat = Catalog::new(alloc);
-    for name in ["a.bil", "b.bil"] {
-        let name = Name::read(alloc, name)?;
+    for name in names {
+        let name = Name::read(alloc, *name)?;
         if open_all(alloc, &mut cat, &mut folder, &name, false).is_err() {
             return Err("the walk was refused".into());
         }
@@ -289,11 +299,44 @@ fn datasets(alloc: Global) -> Result<Catalog, Fail> {
     Ok(cat)
 }
 
+// The catalog of the two datasets.
+fn datasets(alloc: Global) -> Result<Catalog, Fail> {
+    catalog_of(alloc, &FILES, &["a.bil", "b.bil"])
+}
+
 #[test]
 fn offered_blocks_are_shown_under_their_keys(rt: HostRuntime) -> Result<(), Fail> {
     let folder = DiskFolder::new(rt.clone()?, process::id(rt.process()), rt.alloc());
     let cat = datasets(rt.alloc())?;
     assert_eq!(rt; first_wrong(rt.alloc(), &cat, &folder, &ROWS)?, ROWS.len());
+    Ok(())
+}
+
+// A raster of two columns and six lines by itself, whose second line has the samples 1 and 2.
+const LOW: [File<'static>; 2] = [
+    ("a.bil", &[0, 0, 1, 2, 0, 0, 0, 0, 0, 0, 0, 0]),
+    ("a.hdr", b"NROWS 6\nNCOLS 2\n"),
+];
+
+// Of four lines that are shared, its second and its last line have the same: the one that was offered is shown, and the
+// other one isn't.
+const SECOND: [Row<'static>; 1] = [(
+    4,
+    &[
+        Offer((0, 0, 1), (1, 2)),
+        Look((0, 0, 1), Some((1, 2))),
+        Look((0, 0, 5), None),
+    ],
+)];
+
+#[test]
+fn a_line_is_not_shown_as_another(rt: HostRuntime) -> Result<(), Fail> {
+    let folder = DiskFolder::new(rt.clone()?, process::id(rt.process()), rt.alloc());
+    let cat = catalog_of(rt.alloc(), &LOW, &["a.bil"])?;
+    assert_eq!(rt;
+        first_wrong(rt.alloc(), &cat, &folder, &SECOND)?,
+        SECOND.len()
+    );
     Ok(())
 }
 

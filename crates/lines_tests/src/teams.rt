@@ -89,3 +89,41 @@ fn two_lanes_read_beside_each_other(rt: HostRuntime) -> Result<(), Fail> {
     assert!(rt; is_read(&rt, rt.alloc(), &mut gate, &name)?);
     Ok(())
 }
+
+// The first bytes of an open file through a view: whether the call answers; nothing where the file is shorter.
+fn reads_front<F: Folder>(view: &mut F, file: &mut F::File) -> Option<bool> {
+    let mut out = [0u8; 4];
+    if view.len(file) < 4 {
+        return None;
+    }
+    let read = view.read_at(file, 0, &mut out);
+    Some(read.is_ok())
+}
+
+// Whether the first of two views that read in turn waits in vain and fails, the other one reads, since the first has
+// begun, and from then on each of them reads without waiting.
+fn waits_in_vain<F: Folder + Drop>(folder: &mut F, file: &mut F::File) -> Result<bool, AllocError> {
+    let mut first = folder.fork()?;
+    let mut other = folder.fork()?;
+    let is_refused = reads_front(&mut first, file) == Some(false);
+    let is_read = reads_front(&mut other, file) == Some(true);
+    let is_again = reads_front(&mut first, file) == Some(true);
+    Ok(is_refused && is_read && is_again)
+}
+
+// The same of the views of a gate.
+fn gate_waits(gate: &mut Gate<CalmFolder>, name: &Name) -> Result<bool, AllocError> {
+    match gate.open(name) {
+        Ok(mut file) => waits_in_vain(gate, &mut file),
+        Err(_) => Ok(false),
+    }
+}
+
+// So lanes that read in turn would be refused: the first of them waits for one that hasn't begun.
+#[test]
+fn a_view_that_reads_in_turn_fails(rt: HostRuntime) -> Result<(), Fail> {
+    let mut gate = gate(rt.alloc())?;
+    let name = Name::read(rt.alloc(), "tall.bil")?;
+    assert!(rt; gate_waits(&mut gate, &name)?);
+    Ok(())
+}

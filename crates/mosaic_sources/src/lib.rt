@@ -21,6 +21,7 @@ pub use laws::{
     columns_rise, covers_lines, last_counts, lists_rise, samples_are_pixels, unlisted_are_skipped,
     unlisted_give_none,
 };
+pub use lists::MOST_LISTED;
 pub use pixel::{keeps_pixels, value};
 pub use rows::RowIndex;
 pub use run::Run;

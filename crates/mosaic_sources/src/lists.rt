@@ -12,8 +12,8 @@ use crate::spans::Span;
 use crate::stretches::{all_stretches, total_of};
 use std::alloc::{AllocError, Global};
 
-// So many numbers all lists have together at most.
-const MOST_LISTED: u64 = 4_194_304;
+/// So many numbers all lists of an index have together at most.
+pub const MOST_LISTED: u64 = 4_194_304;
 
 // Counts one more at each place of a span.
 fn count_between(counts: &mut Vec<u32>, span: Span)

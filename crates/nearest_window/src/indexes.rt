@@ -11,8 +11,8 @@ use std::marker::Model;
 // So many bands are indexed at most.
 const MOST_INDEXED: usize = 256;
 
-// So many numbers all lists have together at most.
-const MOST_LISTED: u32 = 4_194_304;
+// So many numbers the lists of all indexes have together at most: as many as those of one.
+const MOST_LISTED: u32 = mosaic_sources::MOST_LISTED as u32;
 
 /// A band of a mosaic, and its index. None: the lists would be too long, so it goes without.
 #[derive(Drop)]

@@ -40,7 +40,7 @@ module _ (Place : ℕ → ℕ → ℕ → Type 0) (k : ℕ) (rect : Rect) (sampl
   lines_kept b x y place before is = over.outside b x y place (λ inside. let less = before inside.band_is in let top = inside.top in let no : ⊥ = omega arith in no) ∙ is
 
 -- the samples of lines by their column and line
-lines_at : (f : ℕ → ℕ → ℤ) (size : Size) (first end : ℕ) (samples : List ℤ) → samples ≡ row_by_row f (lines_rect size first end) → (x y : ℕ) → x < size.w → y < end - first → get_or samples (y * size.w + x) (pos 0) ≡ f x (first + y)
+pub lines_at : (f : ℕ → ℕ → ℤ) (size : Size) (first end : ℕ) (samples : List ℤ) → samples ≡ row_by_row f (lines_rect size first end) → (x y : ℕ) → x < size.w → y < end - first → get_or samples (y * size.w + x) (pos 0) ≡ f x (first + y)
 lines_at f size first end samples is x y column line =
     let within : y * size.w + x < size.w * (end - first) = let less = mul-add-lt y size.w x (end - first) line column in let turned : (end - first) * size.w ≡ size.w * (end - first) = grind arith in omega (arith, less, turned) in
     let none : 0 + (y * size.w + x) % size.w ≡ (y * size.w + x) % size.w = omega arith in

@@ -1,6 +1,6 @@
 -- How the parts of a translation end.
 use Rattle.std.proofs.Common.{◌≡◌, ◌∙◌, ap, refl, ◌≤◌, inl, inr, subst, sym, ℕ, List, Result, Ok, Err, Option, Some, arith}
-use Rattle.std.specs.Prelude.{IfErr}
+use Rattle.std.specs.Prelude.{IfErr, OnOk}
 use Rattle.std.specs.Result.{IsErr, IsErrAnd}
 use Rattle.outside.specs.Causes.{HasCause, Rose}
 use Rattle.outside.specs.Outside.{Files}
@@ -152,3 +152,37 @@ ends_published {T = T} told f g (Err e) of cause = by e of cause
     by : (e : Fault) → IsOfFolder e → HasCause {T = T} FolderFault f g (Err e) → MayEnd {T = T} told f g 0 0 (Err e)
     by e (inl is) cause = subst (λ (x : Fault). HasCause {T = T} FolderFault f g (Err x) → MayEnd {T = T} told f g 0 0 (Err x)) (sym is) (λ at. ends_folder told f g 0 0 at.later (omega arith) (at.failed refl)) cause
     by e (inr is) cause = subst (λ (x : Fault). MayEnd {T = T} told f g 0 0 (Err x)) (sym is) (ends_memory told f g 0 0 cause.later (omega arith))
+
+-- what holds where a call answers Ok
+pub ok_then : (r : Result (Unit {0}) Fault) (P : Type 0) → r ≡ Ok tt → OnOk r P → P
+ok_then r P is h = subst (λ (e : Result (Unit {0}) Fault). OnOk e P) is h
+
+-- before a later count of the folder's faults
+pub ends_later : {T : Type 0} (told : Option Files) (f g h o p : ℕ) (r : Result T Fault) → g ≤ h → MayEnd told f g o p r → MayEnd told f h o p r
+ends_later told f g h o p r later ends =
+    let fl : f ≤ g = ends.cause.folder_later in
+    record {
+      cause = record {
+        folder_later = omega arith;
+        out_later = ends.cause.out_later;
+        folder_failed = λ is. let rose = ends.cause.folder_failed is in omega (arith, rose);
+        out_failed = ends.cause.out_failed;
+      };
+      reading = ends.reading;
+      differs = ends.differs;
+      never = ends.never;
+    }
+
+-- a fault of a view, of which the folder's count takes the failed calls over
+pub ends_by_view : {T : Type 0} (told : Option Files) (f h view o : ℕ) (r : Result T Fault) → f ≤ h → (1 ≤ view → Rose f h) → MayEnd told 0 view 0 0 r → MayEnd told f h o o r
+ends_by_view told f h view o r later risen ends = record {
+  cause = record {
+    folder_later = later;
+    out_later = omega arith;
+    folder_failed = λ is. let rose = ends.cause.folder_failed is in risen (omega (arith, rose));
+    out_failed = λ is. let rose = ends.cause.out_failed is in let no : ⊥ = omega (arith, rose) in absurd no;
+  };
+  reading = ends.reading;
+  differs = ends.differs;
+  never = ends.never;
+}

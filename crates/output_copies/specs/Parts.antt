@@ -1,6 +1,7 @@
 -- Parts of an output: lines of a band.
 use Rattle.std.specs.Prelude.{ℕ, ℤ, ◌≡◌, ◌<◌, ◌≤◌, ◌+◌, ◌-◌, ◌*◌, List, length, take, Option, Some, slice_get}
 use Rattle.std.specs.List.{All}
+use Rattle.geotransform.specs.declared.types.Rect.{Rect}
 use Rattle.outside.specs.Outside.{Files}
 use Rattle.catalog.specs.Drivers.{Dataset}
 use Rattle.catalog.specs.Places.{row_by_row}
@@ -17,6 +18,18 @@ pub record AreRead (told : Option Files) (cat : List Dataset) (id : ℕ) (p : Pl
   pub held : All (IsHeldIn p lines.band) samples
   pub pixels : (m : Files) (d : Dataset) → told ≡ Some m → slice_get cat id ≡ Some d →
       samples ≡ row_by_row (raster_of m d p lines.band) (lines_rect p.size lines.first lines.end)
+
+-- The same of a rectangle of a band.
+pub record AreReadIn (told : Option Files) (cat : List Dataset) (id : ℕ) (p : Planned) (band : ℕ) (rect : Rect)
+    (samples : List ℤ) : Type 0 where
+  pub long : length samples ≡ rect.w * rect.h
+  pub held : All (IsHeldIn p band) samples
+  pub pixels : (m : Files) (d : Dataset) → told ≡ Some m → slice_get cat id ≡ Some d →
+      samples ≡ row_by_row (raster_of m d p band) rect
+
+-- a room begins with the samples of a rectangle of a band that were read
+abbrev pub BeginsWithIn : Option Files → List Dataset → ℕ → Planned → ℕ → Rect → List ℤ → Type 0
+BeginsWithIn told cat id p band rect room = AreReadIn told cat id p band rect (take (rect.w * rect.h) room)
 
 -- lines of a band of a plan
 pub record ArePart (p : Planned) (lines : Lines) : Type 0 where

@@ -7,9 +7,17 @@ mod band_lines;
 mod calls;
 mod copying;
 mod documents;
+mod making;
 mod output;
+mod packed;
+mod packed_output;
+mod pieces;
+mod portion;
 mod progress;
+mod publishing;
+mod records;
 mod texts;
+mod worker;
 mod writing;
 
 pub use output::write_output;

@@ -1,5 +1,5 @@
 // A translation, from its first text to its last.
-ghost use Rattle.std.specs.Prelude.{◌≡◌, ◌≢◌, ◌≤◌, ◌<◌, ◌*◌, ◌++◌, ℕ, List, Option, IfErr, IfOk, IfSome, OnErr, OnOk};
+ghost use Rattle.std.specs.Prelude.{◌≡◌, ◌≢◌, ◌≤◌, ◌<◌, ◌*◌, ◌++◌, Option, IfErr, IfOk, IfSome, OnErr, OnOk};
 ghost use Rattle.std.specs.Prelude.{Some, length, slice_get, true};
 ghost use Rattle.outside.specs.Outside.{Files};
 ghost use Rattle.outside.specs.Reading.{WhereTold};
@@ -11,7 +11,7 @@ ghost use Rattle.translate_plan.specs.declared.options.Driver.TheVariants.{Vrt};
 ghost use Rattle.write_back.specs.Plans.{output_of, IsNamedFor};
 ghost use Rattle.strip_copies.specs.Copies.{IsRoomFor, IsTranslation};
 ghost use Rattle.strip_copies.specs.Heights.{most_samples};
-ghost use Rattle.error_lines.specs.Faults.{Differs, HasCauses, IsOfReading, IsOutside};
+ghost use Rattle.error_lines.specs.Faults.{Differs, HasCauses, IsOfReading};
 ghost use Rattle.error_lines.specs.Progress.{progress};
 ghost use Rattle.error_lines.specs.Steps.{all_done, publishes, Goes};
 ghost use Rattle.output_copies.specs.Copying.{spoken, IsChanged, MayEnd, Puts, TellsChange};
@@ -24,17 +24,19 @@ use crate::ahead::{Rooms, copy_ahead};
 use crate::band_lines::area;
 use crate::copying::{Copier, copy_all};
 use crate::documents::write_document;
+use crate::packed_output::{shares_of, write_packed};
+use crate::publishing::{lines_of, publish};
 use crate::texts::{put_end, put_size};
 use crate::writing::Writing;
 use error_lines::Fault;
 use geotransform::Sample;
-use lane_teams::lines_for;
+use lane_teams::WorkerCount;
 use outside::{Counter, Folder, Sink};
 use shared_lines::{Lines, Scene};
 use std::marker::Brand;
 use std::sync::ledger::{Blank, Ledger};
 use std::thread::Threads;
-use strip_copies::{StripReader, Translation, shares_blocks, strip_height};
+use strip_copies::{StripReader, Translation, strip_height};
 use translate_plan::Driver;
 use write_back::Target;
 
@@ -63,7 +65,13 @@ fn copier_for<'a, F: Folder, L: Ledger, W: Ledger, S: Scene>(
     ensures quiet { IfOk result (λ copier. copier.quiet ≡ writing.now.quiet) }
     ensures memory { IfErr result (λ f. f ≡ Fault.Memory) }
 {
-    let reader = StripReader::new(translation, writing.workers, writing.blocks, loads)?;
+    let reader = StripReader::new(
+        translation,
+        writing.workers,
+        WorkerCount::USUAL,
+        writing.blocks,
+        loads,
+    )?;
     let writes = Counter::open(writes);
     let rows = strip_height(translation, writing.workers, writing.blocks);
     let ahead = writing.workers.get() > 1;
@@ -144,54 +152,6 @@ fn copy_lines<R: Threads + Sync, F: Folder, O: Sink, L: Ledger + Send, W: Ledger
         }
         None => copy_all(rt, translation, copier, folder, target, out, &mut ready),
     }
-}
-
-// Publishes the files of an output, all lines of which were written.
-fn publish<F: Folder, W: Ledger>(
-    translation: &Translation,
-    folder: &mut F,
-    target: Target<F>,
-    writes: &mut Counter<W>,
-) -> Result<(), Fault>
-    requires filled { IsFilled (F.names folder.old) translation.now.cat translation.now.id translation.now.plan target
-        translation.now.plan.size.h translation.now.plan.size.h 0 }
-    ensures goes { (m : Files) (d : Dataset) → F.names folder.old ≡ Some m →
-        slice_get translation.now.cat translation.now.id ≡ Some d → (text : Option (List ℕ)) →
-        Goes (all_done (publishes (files_by (output_of translation.now.plan) target.name
-        (raster_of m d translation.now.plan)))) m result (F.names folder.new) text text }
-    ensures ends { MayEnd (F.names folder.old) (F.faults folder.old) (F.faults folder.new) 0 0 result }
-    ensures outside { IfErr result IsOutside }
-{
-    translation.plan.rules();
-    match target.close(folder, writes) {
-        Ok(()) => Ok(()),
-        Err(fault) => Err(Fault::from(fault.cause)),
-    }
-}
-
-// The lines that the lanes of several workers share, as many as blocks are held, where they may read the same blocks.
-// There are none where memory is refused for them.
-fn lines_of<F: Folder, S: Scene>(
-    translation: &Translation,
-    folder: &F,
-    writing: &Writing,
-) -> Option<Lines<S>>
-    requires told { S.told ≡ F.names folder.now }
-    requires scene { S.cat ≡ translation.now.cat }
-    requires some { 1 ≤ writing.now.blocks }
-    requires few { writing.now.blocks ≤ most_blocks }
-{
-    if !shares_blocks(translation) {
-        return None;
-    }
-    let alloc = translation.alloc;
-    lines_for(
-        alloc,
-        writing.workers,
-        writing.blocks,
-        &translation.cat,
-        folder,
-    )
 }
 
 // Copies the lines of an output, and publishes its files.
@@ -283,6 +243,17 @@ fn write_planned<R: Threads + Sync, F: Folder, O: Sink>(
     translation.plan.rules();
     if let Driver::Vrt = translation.plan.driver {
         return write_document(translation, folder, out, writing);
+    }
+    if let Some(shares) = shares_of(translation, writing) {
+        return write_packed::<R, F, O, Brand, Brand>(
+            rt,
+            translation,
+            folder,
+            out,
+            writing,
+            shares,
+            Blank::new(1),
+        );
     }
     write_files::<R, F, O, Brand, Brand, Brand>(
         rt,

@@ -13,3 +13,4 @@ pub mod Sinks
 pub mod Told
 pub mod Walks
 pub mod Trims
+pub mod Turns

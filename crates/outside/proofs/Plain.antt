@@ -7,7 +7,7 @@ use Rattle.outside.specs.Paths.{with_part, kept_parts, between_slashes, joined, 
 use Rattle.outside.specs.Plain.{are_plain, behind_slash, adds_all}
 
 -- a part that begins with a byte that isn't a point
-abbrev IsPlainPart : List ℕ → Type 0
+abbrev pub IsPlainPart : List ℕ → Type 0
 IsPlainPart [] = ⊥
 IsPlainPart (b ∷ bs) = (b == 46) ≡ false
 
@@ -29,7 +29,7 @@ both_plain [] first rest = tt
 both_plain (p ∷ ps) first rest = (first, rest)
 
 -- such a part stays
-part_stays : (absolute : Bool) (before : List (List ℕ)) (part : List ℕ) → IsPlainPart part → with_part absolute before part ≡ before ++ part ∷ []
+pub part_stays : (absolute : Bool) (before : List (List ℕ)) (part : List ℕ) → IsPlainPart part → with_part absolute before part ≡ before ++ part ∷ []
 part_stays absolute before [] plain = absurd plain
 part_stays absolute before (b ∷ bs) plain =
     let other = cond (is_kept before) (take (length before - 1) before) (cond (not absolute) (before ++ codes ".." ∷ []) before) in
@@ -128,13 +128,13 @@ plain_normal [] h = absurd cc
 plain_normal (c ∷ cs) h = by_slash c cs (c == 47) refl h
 
 -- a part .. stays behind others of which it removes none, and so does the next one
-abbrev parent : List ℕ
+abbrev pub parent : List ℕ
 parent = 46 ∷ 46 ∷ []
 
 parent_stays : (before : List (List ℕ)) → is_kept before ≡ false → with_part false before parent ≡ before ++ parent ∷ []
 parent_stays before last = ap (λ r. cond r (take (length before - 1) before) (before ++ parent ∷ [])) last
 
-last_of : (before : List (List ℕ)) (part : List ℕ) → slice_get (before ++ part ∷ []) (length before) ≡ Some part
+pub last_of : (before : List (List ℕ)) (part : List ℕ) → slice_get (before ++ part ∷ []) (length before) ≡ Some part
 last_of [] part = refl
 last_of (p ∷ ps) part = last_of ps part
 

@@ -9,6 +9,11 @@ use Rattle.outside.specs.Paths.{kept_parts, between_slashes, is_kept}
 abbrev pub is_in_part : ℕ → Bool
 is_in_part c = not (c == slash)
 
+-- whether a part begins here, and not with a point
+abbrev pub begins_part : List ℕ → Bool
+begins_part [] = false
+begins_part (c ∷ cs) = not (c == slash) && not (c == point)
+
 -- whether a part that begins here begins with a slash or a point
 abbrev pub begins_specially : Bool → ℕ → Bool
 begins_specially first c = first && ((c == slash) || (c == point))

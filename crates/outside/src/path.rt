@@ -4,7 +4,7 @@ ghost use Rattle.std.specs.Prelude.{◌-◌, if◌then◌else◌, drop, slice_in
 ghost use Rattle.std.specs.List.{prefix_len};
 ghost use Rattle.outside.specs.Paths.{with_part, kept_parts, between_slashes, joined, normal, is_kept, is_absolute};
 ghost use Rattle.outside.specs.Plain.{dereferenced, are_plain, are_plain_behind, behind_slash, is_in_part};
-ghost use Rattle.outside.specs.Plain.{add_the_same, adds_all};
+ghost use Rattle.outside.specs.Plain.{add_the_same, adds_all, begins_part};
 
 use crate::Text;
 use memchr::memchr;
@@ -87,6 +87,7 @@ fn behind_slash(text: &[u8]) -> &[u8]
 
 // Whether something begins here, and its first byte is neither a slash nor a point.
 fn begins_plainly(text: &[u8]) -> bool
+    ensures part { result ≡ begins_part text.now }
     ensures plain { result ≡ true → are_plain true text.now ≡ are_plain false text.now }
     ensures other { result ≡ false → are_plain true text.now ≡ false }
 {
@@ -183,7 +184,38 @@ fn is_absolute(text: &[u8]) -> bool
     }
 }
 
-// How many bytes an empty part or a point in front has, with the slash behind it: none where there is no such part.
+// What stands behind a part `..`, where a slash stands before it and one behind it.
+fn behind_up(text: &[u8]) -> Option<&[u8]>
+    ensures up { IfSome result (λ rest. text.now ≡ 47 ∷ 46 ∷ 46 ∷ 47 ∷ rest.now) }
+{
+    match text {
+        [b, c, d, e, rest @ ..] if *b == b'/' && *c == b'.' && *d == b'.' && *e == b'/' => Some(
+            rest,
+        ),
+        _ => None,
+    }
+}
+
+// How many bytes a part in front and a part `..` behind it have, with the slash behind each: none where these don't
+// stand here, or the part begins with a point.
+fn turn_len(text: &[u8]) -> usize
+    ensures parts { add_the_same text.now (drop result text.now) }
+    ensures bound { result ≤ length text.now }
+    ensures slash { 0 < result → slice_index text.now (result - 1) ≡ 47 }
+{
+    if !begins_plainly(text) {
+        return 0;
+    }
+    let count = part_len(text);
+    let (_, rest) = text.split_at(count);
+    match behind_up(rest) {
+        Some(_) => count + 4,
+        None => 0,
+    }
+}
+
+// How many bytes have an empty part, a point, or a part with the `..` that removes it, that stand in front, with the
+// slashes behind them: none where there is no such part.
 #[tactic(auto, using(crate::proofs::Trims::falls))]
 fn dropped_part_len(text: &[u8]) -> usize
     ensures parts { add_the_same text.now (drop result text.now) }
@@ -194,11 +226,11 @@ fn dropped_part_len(text: &[u8]) -> usize
     match text {
         [c, ..] if *c == b'/' => 1,
         [c, d, ..] if *c == b'.' && *d == b'/' => 2,
-        _ => 0,
+        _ => turn_len(text),
     }
 }
 
-// How many bytes the empty parts and the points in front have, with the slashes behind them.
+// How many bytes the parts in front have that fall away, with the slashes behind them.
 fn dropped_len(text: &[u8]) -> usize
     ensures parts { add_the_same text.now (drop result text.now) }
     ensures bound { result ≤ length text.now }

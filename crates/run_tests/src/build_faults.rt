@@ -111,12 +111,12 @@ fn failing_calls_of_a_build(rt: HostRuntime) {
     none_wrong(&rt, first_other(&rt, rt.alloc(), files(), works(), &CALLS));
 }
 
-// Builds, and how many calls of the folder each makes at least: the list is opened and read, each raster and its header
-// opened and the header read, and the document made, written and published.
+// Builds, and how many calls of the folder each makes: the list is opened and read, each raster and its header are
+// opened and the header is read, and the document is made, written and published.
 static EACH: [Turn; 3] = [
-    (LISTED, Failer::Folder, (14, 256)),
-    (QUIET, Failer::Folder, (12, 256)),
-    (OVER_THE_LIST, Failer::Folder, (8, 256)),
+    (LISTED, Failer::Folder, (14, 15)),
+    (QUIET, Failer::Folder, (12, 13)),
+    (OVER_THE_LIST, Failer::Folder, (8, 9)),
 ];
 
 // Each call of the folder fails in turn.
@@ -125,11 +125,12 @@ fn each_failing_call_of_a_build(rt: HostRuntime) {
     none_wrong(&rt, first_unmet(&rt, rt.alloc(), files(), works(), &EACH));
 }
 
-// Builds, how many bytes a failing call of the output takes first, and how many calls each makes at least.
+// Builds, how many bytes a failing call of the output takes first, and how many calls each makes: one or more where
+// something is printed, else none.
 static PUTS: [Turn; 3] = [
     (LISTED, Failer::Output(0), (1, 64)),
     (LISTED, Failer::Output(7), (1, 64)),
-    (QUIET, Failer::Output(3), (0, 64)),
+    (QUIET, Failer::Output(3), (0, 1)),
 ];
 
 // Each call of the output fails in turn. A quiet build makes none.
@@ -341,7 +342,8 @@ static STRICT_CALLS: [Asking<'static>; 3] = [
 
 // Whether each call of the folder ends a build where it fails, each of the output does, the first one behind the
 // warning and the document, none of the input is made, and nothing is changed where no input may be skipped, whichever
-// call fails.
+// call fails. The folder gets the five calls from above, and three by which the document is made, written and
+// published.
 fn tiles_end<R: Threads + Sync + Abort>(
     rt: &R,
     alloc: Global,
@@ -350,7 +352,7 @@ fn tiles_end<R: Threads + Sync + Abort>(
 ) -> bool {
     let puts: &[Failing] = &[Failing::Call(1)];
     let output = Failer::Output(0);
-    each_cuts(rt, alloc, files, work, Failer::Folder, (8, 256))
+    each_cuts(rt, alloc, files, work, Failer::Folder, (8, 9))
         && ends(rt, alloc, files, work, output, puts, End::Warned(1))
         && each_cuts(rt, alloc, files, work, output, (0, 64))
         && each_cuts(rt, alloc, files, work, Failer::Input, (0, 1))

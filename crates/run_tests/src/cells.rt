@@ -1,8 +1,8 @@
 // Runs over cells and tiles.
 use crate::fickle::Fickle;
 use crate::trials::{
-    FileOf, NOTHING, Part, Row, first_harmless, first_wrong, folder_of, is_number, joined,
-    none_wrong, said_in, says, says_in,
+    FileOf, NOTHING, Part, Row, first_harmless, first_wrong, is_number, joined, none_wrong, says,
+    says_in,
 };
 use std::alloc::Global;
 use std::process::Abort;
@@ -180,20 +180,49 @@ fn cut_cells(rt: HostRuntime) {
     none_wrong(&rt, first_wrong_cut(&rt, rt.alloc(), &cell, &CUTS));
 }
 
-// What is told, but for the last length, of the first bytes of the cell.
-fn told_of(len: usize) -> &'static [u8] {
-    if len < 3428 {
-        b"ERROR 4: c.dt0: malformed dted (3)\n"
-    } else {
-        b"ERROR 4: c.dt0: needs 3448 bytes, has 34"
+// What is told of the cell where its head is there and bytes of its one record are missing: all twenty, down to one.
+static LACKING: [&str; 20] = [
+    "ERROR 4: c.dt0: needs 3448 bytes, has 3428\n",
+    "ERROR 4: c.dt0: needs 3448 bytes, has 3429\n",
+    "ERROR 4: c.dt0: needs 3448 bytes, has 3430\n",
+    "ERROR 4: c.dt0: needs 3448 bytes, has 3431\n",
+    "ERROR 4: c.dt0: needs 3448 bytes, has 3432\n",
+    "ERROR 4: c.dt0: needs 3448 bytes, has 3433\n",
+    "ERROR 4: c.dt0: needs 3448 bytes, has 3434\n",
+    "ERROR 4: c.dt0: needs 3448 bytes, has 3435\n",
+    "ERROR 4: c.dt0: needs 3448 bytes, has 3436\n",
+    "ERROR 4: c.dt0: needs 3448 bytes, has 3437\n",
+    "ERROR 4: c.dt0: needs 3448 bytes, has 3438\n",
+    "ERROR 4: c.dt0: needs 3448 bytes, has 3439\n",
+    "ERROR 4: c.dt0: needs 3448 bytes, has 3440\n",
+    "ERROR 4: c.dt0: needs 3448 bytes, has 3441\n",
+    "ERROR 4: c.dt0: needs 3448 bytes, has 3442\n",
+    "ERROR 4: c.dt0: needs 3448 bytes, has 3443\n",
+    "ERROR 4: c.dt0: needs 3448 bytes, has 3444\n",
+    "ERROR 4: c.dt0: needs 3448 bytes, has 3445\n",
+    "ERROR 4: c.dt0: needs 3448 bytes, has 3446\n",
+    "ERROR 4: c.dt0: needs 3448 bytes, has 3447\n",
+];
+
+fn lacking() -> &'static [&'static str] {
+    &LACKING
+}
+
+// What is told of so many first bytes of the cell, which aren't all.
+fn told_of(lacking: &[&'static str], len: usize) -> &'static str {
+    match len.checked_sub(3428) {
+        None => "ERROR 4: c.dt0: malformed dted (3)\n",
+        Some(at) => match lacking.get(at) {
+            Some(told) => *told,
+            None => "",
+        },
     }
 }
 
 fn is_cut_off<R: Threads + Sync + Abort>(rt: &R, alloc: Global, cell: &[u8], len: usize) -> bool {
     let (front, _) = cell.split_at(len.min(cell.len()));
-    let mut folder = folder_of(rt, alloc, &[("c.dt0", front)], &[]);
-    let said = said_in(rt, alloc, &mut folder, "gdalinfo c.dt0");
-    said.status == 1 && said.out.got().is_empty() && said.err.got().starts_with(told_of(len))
+    let row = ("gdalinfo c.dt0", 1, "", told_of(lacking(), len));
+    says(rt, alloc, &[("c.dt0", front)], &row)
 }
 
 // The least number of first bytes of a cell of which something else is told.

@@ -320,8 +320,20 @@ fn first_unmade<R: Threads + Sync + Abort>(
     0
 }
 
-// Whether each call fails so, up to a run in which none failed, as the folder, the input and the output count
-// themselves, and there are so many of them.
+/// Whether each call fails so, up to a run in which none failed, as the folder, the input and the output count
+/// themselves; the number of the call that isn't made is above the first of these and not above the second.
+pub fn each_asks_within<R: Threads + Sync + Abort>(
+    rt: &R,
+    alloc: Global,
+    files: &[FileOf<'_>],
+    asking: &Asking<'_>,
+    (least, most): (u64, u64),
+) -> bool {
+    let call = first_unmade(rt, alloc, files, asking);
+    call > least && call <= most && asks_so(rt, alloc, files, asking, call, false)
+}
+
+// The same, where there are as many calls as are listed.
 fn each_asks_so<R: Threads + Sync + Abort>(
     rt: &R,
     alloc: Global,
@@ -329,8 +341,8 @@ fn each_asks_so<R: Threads + Sync + Abort>(
     asking: &Asking<'_>,
 ) -> bool {
     let (_, _, _, count, _) = *asking;
-    let call = first_unmade(rt, alloc, files, asking);
-    call == count.saturating_add(1) && asks_so(rt, alloc, files, asking, call, false)
+    let numbers = (count, count.saturating_add(1));
+    each_asks_within(rt, alloc, files, asking, numbers)
 }
 
 /// The first of these of which a call's failing isn't met.

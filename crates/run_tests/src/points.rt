@@ -1,8 +1,8 @@
 // Runs over the points of an input, and over mosaics of mosaics.
 use crate::ends::{Asking, Failer, first_unasked};
 use crate::trials::{
-    CALM, Calls, FOLDER, Failures, Fed, FileOf, NOTHING, READING, Row, Trial, WRITING, ends_so,
-    first_failing, first_harmless, first_wrong, is_number, none_wrong, run_over,
+    CALM, Calls, FOLDER, Failures, Fed, FileOf, Given, NOTHING, READING, Row, Trial, WRITING,
+    ends_so, first_failing, first_harmless, first_wrong, is_number, none_wrong, run_over,
 };
 use outside::{Failing, Method};
 use std::alloc::Global;
@@ -339,6 +339,72 @@ const EMPTY_REPORTED: Fed<'static> = ("gdallocationinfo two.bil", NOTHING);
 const FOUR: Fed<'static> = (TWO, (b"0 0\n9 9\n2 1\nx\n", 4));
 
 const NO_POINT: (u8, &str) = (1, "ERROR 5: input line 4 is no point\n");
+
+// The three points in pieces of a line each, in pieces that end within lines, byte by byte and at once; and without the
+// end of the last line.
+const FOURS: Given<'static> = (b"0 0\n9 9\n2 1\n", 4);
+
+const FIVES: Given<'static> = (b"0 0\n9 9\n2 1\n", 5);
+
+const ONES: Given<'static> = (b"0 0\n9 9\n2 1\n", 1);
+
+const AT_ONCE: Given<'static> = (b"0 0\n9 9\n2 1\n", 65_536);
+
+const UNENDED: Given<'static> = (b"0 0\n9 9\n2 1", 4);
+
+// An input, the number of its call that fails, and what is printed by then.
+type Take<'a> = (Given<'a>, u64, &'a str);
+
+// Each call, that behind the last piece too; of the thirteen that give a byte or the end, those around the ends of
+// lines. As long as the input hasn't ended, a last line without an end is no whole line.
+static TAKES: [Take<'static>; 18] = [
+    (FOURS, 1, ""),
+    (FOURS, 2, "1\n4\n"),
+    (FOURS, 3, "1\n4\n\n"),
+    (FOURS, 4, "1\n4\n\n9\n12\n"),
+    (FIVES, 1, ""),
+    (FIVES, 2, "1\n4\n"),
+    (FIVES, 3, "1\n4\n\n"),
+    (FIVES, 4, "1\n4\n\n9\n12\n"),
+    (ONES, 4, ""),
+    (ONES, 5, "1\n4\n"),
+    (ONES, 8, "1\n4\n"),
+    (ONES, 9, "1\n4\n\n"),
+    (ONES, 12, "1\n4\n\n"),
+    (ONES, 13, "1\n4\n\n9\n12\n"),
+    (AT_ONCE, 1, ""),
+    (AT_ONCE, 2, "1\n4\n\n9\n12\n"),
+    (UNENDED, 3, "1\n4\n\n"),
+    (UNENDED, 4, "1\n4\n\n"),
+];
+
+// Whether a run over such an input ends by its fault, and prints this.
+fn is_taken_so<R: Threads + Sync + Abort>(rt: &R, alloc: Global, take: &Take<'_>) -> bool {
+    let (given, call, out) = *take;
+    let takes: &[Failing] = &[Failing::Call(call)];
+    let trial: Trial<'_> = ((TWO, given), (&[], takes, &[]), (2, out, READING));
+    ends_so(rt, alloc, files(), &trial)
+}
+
+// The first of these inputs over which a run goes otherwise.
+fn first_other_take<R: Threads + Sync + Abort>(
+    rt: &R,
+    alloc: Global,
+    takes: &[Take<'_>],
+) -> Option<usize> {
+    for (at, take) in takes.iter().enumerate() {
+        if !is_taken_so(rt, alloc, take) {
+            return Some(at);
+        }
+    }
+    None
+}
+
+// The whole lines among the bytes that the input gave before it failed are answered, and nothing more.
+#[test]
+fn each_failing_take(rt: HostRuntime) {
+    none_wrong(&rt, first_other_take(&rt, rt.alloc(), &TAKES));
+}
 
 // The data and their header are opened and the header is read; then the data are opened again, and for two of the
 // points a line of each band is read. Three pieces and the end are taken, and each answer is put. Of an empty input the

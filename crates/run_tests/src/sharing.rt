@@ -1,5 +1,6 @@
-// Points and translations that are read through lines, and how many reads they take.
-use crate::trials::{FileOf, Part, folder_of, joined, none_wrong, said_of};
+// Points and translations that are read through lines, how many reads they take, and points of which a call fails.
+use crate::ends::{Asking, Failer, each_asks_within};
+use crate::trials::{Fed, FileOf, Given, Part, folder_of, joined, none_wrong, said_of};
 use outside::{CountingFolder, MemFolder};
 use std::alloc::Global;
 use std::process::Abort;
@@ -159,11 +160,12 @@ fn points_are_looked_for_in_lines(rt: HostRuntime) {
 
 // One worker copies 32 lines at a time, which show 16 or 17 lines of the column, and the pool holds these: 130 loads.
 // Two copy 256, and a pool of 64 blocks lacks each of the 65 lines in each of the 32 squares: 2,080 loads for a band,
-// if neither of them looks into lines. Where both look, and are at one line of the column at the same time, one of them
-// may miss it, but not both, since only what the other one does there keeps a look from its line: so at most 1,040
-// looks for a band fail, in whatever order the two come. Besides, each may load each line once at first, and for a band
-// the first and the last one, which share a line, 32 times. Of three bands two are read while those before them are
-// written; of an output of another size, lines are made of those that are read.
+// if neither of them looks into lines. Where both look, and are at one line of the column at the same time, one of
+// them may miss it, but not both, since only what the other one does there keeps a look from its line: so at most
+// 1,040 looks for a band fail, in whatever order the two come. Besides, each may load each line once at first, and for
+// a band the first and the last one, which share a line, 32 times. Of three bands two are read while those before them
+// are written; of an output of another size, lines are made of those that are read. (Less than a million samples come
+// to each of the two, so neither packs lines of its own.)
 static TRANSLATIONS: [Reads<'static>; 4] = [
     ("gdal_translate -q --blocks 64 column.vrt out.bil", 130, 150),
     (
@@ -187,4 +189,102 @@ static TRANSLATIONS: [Reads<'static>; 4] = [
 fn translations_look_into_lines(rt: HostRuntime) {
     let wrong = first_unread(&rt, rt.alloc(), b"", b"", &TRANSLATIONS);
     none_wrong(&rt, wrong);
+}
+
+// Three lines as raw data, in a mosaic and as a grid.
+static LOW: [FileOf<'static>; 4] = [
+    ("low.bil", &[7, 8, 9]),
+    ("low.hdr", b"NROWS 3\nNCOLS 1\n"),
+    (
+        "low.vrt",
+        b"<VRTDataset rasterXSize='1' rasterYSize='3'><VRTRasterBand dataType='Byte'><SimpleSource>
+<SourceFilename>low.bil</SourceFilename></SimpleSource></VRTRasterBand></VRTDataset>",
+    ),
+    (
+        "low.asc",
+        b"ncols 1\nnrows 3\nxllcorner 0\nyllcorner 0\ncellsize 1\n7\n8\n9\n",
+    ),
+];
+
+// Each point once; and each of them twice.
+const ONCE: Given<'static> = (b"0 0\n0 1\n0 2\n", 4);
+
+const TWICE: Given<'static> = (b"0 0\n0 1\n0 2\n0 0\n0 1\n0 2\n", 4);
+
+// A run over points, what it prints, and the numbers between which the first call of the folder is that isn't made.
+type Cut<'a> = (Fed<'a>, &'a str, (u64, u64));
+
+// Each point once, where all blocks are held: one line is read for each. The data and their header are opened, the
+// header is read, and the data are opened again; a document is opened and read before. And each point twice, where two
+// blocks are held and two lines shared: of three blocks the first and the last have one line in common, and the second
+// is found in the other. Each line of the data is read once or oftener. A grid is opened and read, and opened again.
+static CUTS: [Cut<'static>; 5] = [
+    (
+        ("gdallocationinfo --workers 2 -valonly low.bil", ONCE),
+        "7\n8\n9\n",
+        (7, 8),
+    ),
+    (
+        ("gdallocationinfo --workers 2 -valonly low.vrt", ONCE),
+        "7\n8\n9\n",
+        (9, 10),
+    ),
+    (
+        (
+            "gdallocationinfo --workers 2 --blocks 2 -valonly low.bil",
+            TWICE,
+        ),
+        "7\n8\n9\n7\n8\n9\n",
+        (7, 32),
+    ),
+    (
+        (
+            "gdallocationinfo --workers 2 --blocks 2 -valonly low.vrt",
+            TWICE,
+        ),
+        "7\n8\n9\n7\n8\n9\n",
+        (9, 32),
+    ),
+    (
+        (
+            "gdallocationinfo --workers 2 --blocks 2 -valonly low.asc",
+            TWICE,
+        ),
+        "7\n8\n9\n7\n8\n9\n",
+        (6, 32),
+    ),
+];
+
+// Whether each call of the folder ends such a run by its failing, and so many are made.
+fn is_cut<R: Threads + Sync + Abort>(
+    rt: &R,
+    alloc: Global,
+    files: &[FileOf<'_>],
+    cut: &Cut<'_>,
+) -> bool {
+    let (fed, text, numbers) = *cut;
+    let asking: Asking<'_> = (fed, text, Failer::Folder, 0, (0, ""));
+    each_asks_within(rt, alloc, files, &asking, numbers)
+}
+
+// The first of these runs of which a call's failing isn't met.
+fn first_uncut<R: Threads + Sync + Abort>(
+    rt: &R,
+    alloc: Global,
+    files: &[FileOf<'_>],
+    rows: &[Cut<'_>],
+) -> Option<usize> {
+    for (at, cut) in rows.iter().enumerate() {
+        if !is_cut(rt, alloc, files, cut) {
+            return Some(at);
+        }
+    }
+    None
+}
+
+// Each call of the folder fails in turn, and what is printed by then is the first part of the answers; the files stay,
+// and no draft is left open.
+#[test]
+fn each_failing_call_of_points_over_lines(rt: HostRuntime) {
+    none_wrong(&rt, first_uncut(&rt, rt.alloc(), &LOW, &CUTS));
 }

@@ -212,15 +212,19 @@ fn failing_calls_of_a_raster(rt: HostRuntime) {
     none_wrong(&rt, first_other(&rt, rt.alloc(), files(), works(), &CALLS));
 }
 
-// Translations, and how many calls of the folder each makes at least. Of a hundred lines each is read, and each is
-// written.
+// Translations, and how many calls of the folder each makes. For a line the data and their header are opened and the
+// header is read, and the data are opened again and the line is read: five. Of the nested mosaics each of the three
+// documents is opened and read, and so is each of two rasters as the one above: six and ten, whether one block is held
+// or all of them, since each fills its mosaic's whole raster. Raw data of one line take seven calls: the drafts of the
+// data and of their header are made, the first one is grown and its line written, the text of the second is appended,
+// and both are published. A grid makes at least six calls, and of a hundred lines each is read, and each is written.
 static EACH: [Turn; 6] = [
-    (FIVE, Failer::Folder, (9, 256)),
-    (QUIET, Failer::Folder, (9, 256)),
+    (FIVE, Failer::Folder, (12, 13)),
+    (QUIET, Failer::Folder, (12, 13)),
     (GRID, Failer::Folder, (6, 256)),
-    (NESTED, Failer::Folder, (20, 256)),
+    (NESTED, Failer::Folder, (23, 24)),
     (BESIDE, Failer::Folder, (200, 256)),
-    (ROOMY, Failer::Folder, (20, 256)),
+    (ROOMY, Failer::Folder, (23, 24)),
 ];
 
 // Each call of the folder fails in turn.
@@ -229,14 +233,15 @@ fn each_failing_call(rt: HostRuntime) {
     none_wrong(&rt, first_unmet(&rt, rt.alloc(), files(), works(), &EACH));
 }
 
-// Translations, how many bytes a failing call of the output takes first, and how many calls each makes at least.
+// Translations, how many bytes a failing call of the output takes first, and how many calls each makes: at least two
+// where something is printed, since the size is told before anything is written and the end behind it; else none.
 static PUTS: [Turn; 9] = [
     (FIVE, Failer::Output(0), (2, 64)),
     (FIVE, Failer::Output(1), (2, 64)),
     (FIVE, Failer::Output(5), (2, 64)),
     (GRID, Failer::Output(3), (2, 64)),
     (NESTED, Failer::Output(3), (2, 64)),
-    (QUIET, Failer::Output(3), (0, 64)),
+    (QUIET, Failer::Output(3), (0, 1)),
     (NESTED, Failer::Input, (0, 1)),
     (ROOMY, Failer::Output(3), (2, 64)),
     (ROOMY, Failer::Input, (0, 1)),

@@ -19,7 +19,7 @@ use Rattle.strip_copies.specs.Columns.{column_at, AreColumns}
 use Rattle.strip_copies.proofs.Samples.{held_sample}
 
 -- of as many lines as there are, each shows itself
-shown_own : (n k : ℕ) → 0 < n → shown n n k ≡ k
+pub shown_own : (n k : ℕ) → 0 < n → shown n n k ≡ k
 shown_own n k some =
     let split : (2 * k + 1) * n ≡ k * (2 * n) + n = grind arith in
     ap (λ m. m / (2 * n)) split ∙ div-mul-add k (2 * n) n (omega arith)
@@ -48,7 +48,7 @@ lines_own p height first top tall same some here fits r less = line_behind p hei
 column_is : (c : Columns) (i : ℕ) → i < c.count → column_at c.first c.count i ≡ Some (c.first + i)
 column_is c i less = grind (arith, nat_tests)
 
-wide_of : (a w h : ℕ) → a < w * h → 0 < w
+pub wide_of : (a w h : ℕ) → a < w * h → 0 < w
 wide_of a zero h less = absurd (omega (arith, less))
 wide_of a (suc w) h less = omega arith
 

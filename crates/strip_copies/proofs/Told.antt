@@ -53,13 +53,13 @@ told_lines told p name source k first end n m out t size whole are =
     let front : at % p.size.w ≡ 0 + at % p.size.w = omega arith in
     (are at (omega (arith, less, turned, size, whole))).named m t ∙ ap (λ i. out_pixel p source (pixel_of_name m name) k i (first + at / p.size.w)) front)
 
-any_default : (xs : List ℤ) (k : ℕ) (d : ℤ) → k < length xs → get_or xs k (pos 0) ≡ get_or xs k d
+pub any_default : (xs : List ℤ) (k : ℕ) (d : ℤ) → k < length xs → get_or xs k (pos 0) ≡ get_or xs k d
 any_default [] k d p = absurd (omega arith)
 any_default (x ∷ xs) zero d p = refl
 any_default (x ∷ xs) (suc k) d p = any_default xs k d (omega arith)
 
 -- a band of the output can hold each sample
-held_of : (told : Option Files) (name : List ℕ) (p : Planned) (source : Size) (k i j : ℕ) (v : ℤ) → IsPlan p → IsSample told name p source k i j v → IsHeldIn p k v
+pub held_of : (told : Option Files) (name : List ℕ) (p : Planned) (source : Size) (k i j : ℕ) (v : ℤ) → IsPlan p → IsSample told name p source k i j v → IsHeldIn p k v
 held_of told name p source k i j v plan s = record {
   kind = λ b at. subst (λ n. is_in b.kind n ≡ true) (sym s.shows) (pixel_held p source s.pixels k i j b plan at);
   elevation = λ level is. subst IsElevation (sym s.shows) (cell_held p source s.pixels k i j level plan is);

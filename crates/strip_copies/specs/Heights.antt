@@ -112,6 +112,15 @@ most_lines workers cat p = if is_tall cat p.driver then most_side
 abbrev pub strip_height : ℕ → ℕ → ℕ
 strip_height most width = min most (most_samples / width)
 
+-- the most samples of lines of so many columns for which each of so many readers has room: its share of 4,194,304, or
+-- those of one line
+abbrev pub room_of_each : ℕ → ℕ → ℕ
+room_of_each readers width = max width (most_samples / readers)
+
+-- the lines of so many columns for which it has room
+abbrev pub lines_beside : ℕ → ℕ → ℕ
+lines_beside readers width = max (most_samples / readers / width) 1
+
 -- the lines of raw data hold several bands, pixel by pixel
 abbrev pub is_woven : Layout → ℕ → Bool
 is_woven Bil bands = false

@@ -2,5 +2,7 @@
 pub mod Copies
 pub mod Columns
 pub mod Heights
+pub mod Pieces
+pub mod Portions
 -- What private clauses, views and proofs speak of.
 pub mod Rows

@@ -5,7 +5,8 @@ ghost use Rattle.strip_copies.specs.declared.height.BlockShape.TheVariants.{Squa
 ghost use Rattle.strip_copies.specs.Heights.{fewest_read, has_blocks, is_cell, is_cut_into, is_grid, is_made};
 ghost use Rattle.strip_copies.specs.Heights.{is_mosaic};
 ghost use Rattle.strip_copies.specs.Heights.{is_shared, is_tall, is_woven, lines_alone, lines_copied, lines_each};
-ghost use Rattle.strip_copies.specs.Heights.{lines_held, lines_near, most_lines, strip_height, most_samples};
+ghost use Rattle.strip_copies.specs.Heights.{lines_beside, lines_held, lines_near, most_lines, room_of_each};
+ghost use Rattle.strip_copies.specs.Heights.{strip_height, most_samples};
 ghost use Rattle.catalog.specs.Dataset.{square_side};
 ghost use Rattle.geotransform.specs.Limits.{most_side};
 ghost use Rattle.lane_teams.specs.Workers.{most_workers};
@@ -52,8 +53,8 @@ pub fn strip_lines(most: u32, width: u32) -> u32
     lines.min(most)
 }
 
-// Whether datasets of a kind are cells.
-fn is_cell(kind: Kind) -> bool
+/// Whether datasets of a kind are cells.
+pub fn is_cell(kind: Kind) -> bool
     ensures cell { result ≡ is_cell kind }
 {
     match kind {
@@ -95,8 +96,8 @@ fn is_cut_at(cat: &Catalog, id: u32, shape: BlockShape) -> bool
     }
 }
 
-// Whether some dataset of the catalog is.
-fn has_blocks(cat: &Catalog, shape: BlockShape) -> bool
+/// Whether some dataset of the catalog is cut into such blocks.
+pub fn has_blocks(cat: &Catalog, shape: BlockShape) -> bool
     ensures blocks { result ≡ has_blocks shape cat.now }
 {
     for id in 0..cat.count() {
@@ -171,9 +172,9 @@ fn is_shared(translation: &Translation, workers: WorkerCount) -> bool
     count > 1 && share >= fewest_read(cat)
 }
 
-// The lines of so many columns whose samples stay in a processor's cache: 65,536 samples, which are 1 MiB; at least one
-// line, and at most so many.
-fn lines_near(most: u32, width: u32) -> u32
+/// The lines of so many columns whose samples stay in a processor's cache: 65,536 samples, which are 1 MiB; at least
+/// one line, and at most so many.
+pub fn lines_near(most: u32, width: u32) -> u32
     requires some { 0 < width }
     requires lines { 1 ≤ most }
     ensures lines { result ≡ lines_near most width }
@@ -182,8 +183,8 @@ fn lines_near(most: u32, width: u32) -> u32
     (SAMPLES_NEAR / width).max(1).min(most)
 }
 
-// The lines of a strip that one worker reads alone: but for those of digits, those that stay in the cache.
-fn lines_alone(translation: &Translation) -> u32
+/// The lines of a strip that one worker reads alone: but for those of digits, those that stay in the cache.
+pub fn lines_alone(translation: &Translation) -> u32
     ensures lines { result ≡ lines_alone translation.now.cat translation.now.plan.size.w }
     ensures some { 1 ≤ result }
 {
@@ -223,6 +224,18 @@ pub fn most_lines(translation: &Translation, workers: WorkerCount) -> u32
     } else {
         lines_alone(translation)
     }
+}
+
+/// The lines of so many columns for which each of so many readers has room, at least one: all of them have room for
+/// 4,194,304 samples at most, or each for one line.
+pub fn lines_beside(readers: WorkerCount, width: u32) -> u32
+    requires some { 0 < width }
+    ensures lines { result ≡ lines_beside readers width }
+    ensures least { 1 ≤ result }
+    ensures share { width * result ≤ room_of_each readers width }
+{
+    let count = readers.get();
+    (MOST_SAMPLES / count / width).max(1)
 }
 
 /// Whether several lanes of a translation may read the same blocks: the walk met a mosaic, whose squares each of them

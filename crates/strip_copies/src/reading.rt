@@ -20,12 +20,12 @@ ghost use Rattle.strip_copies.specs.Copies.{lines_rect, IsRoomFor, IsTranslation
 ghost use Rattle.strip_copies.specs.Rows.{AreOf, IsDirect, IsPart, strip_rect, AreShownIn, IsMaking};
 ghost use Rattle.strip_copies.specs.Columns.{AreColumns};
 ghost use Rattle.geotransform.specs.Limits.{most_side};
-ghost use Rattle.strip_copies.specs.Heights.{most_samples};
+ghost use Rattle.strip_copies.specs.Heights.{most_samples, room_of_each};
 ghost use Rattle.band_blocks.specs.Blocks.{most_blocks};
 
 use crate::columns::Columns;
 use crate::direct::{hold_all, is_all_direct, is_direct};
-use crate::height::{lines_apart, most_lines, strip_lines};
+use crate::height::{lines_apart, lines_beside, most_lines, strip_lines};
 use crate::holding::Holding;
 use crate::making::{Making, area, make_lines};
 use crate::shares::fewest_for;
@@ -50,18 +50,20 @@ pub struct StripReader<F: Folder, L: Ledger> {
     pub samples: Vec<Sample>,
 }
 
-// How many lines of the source are read at a time into the room for them, at least one.
-fn room_height(most: u32, columns: u32, lines: u32) -> u32
+// How many lines of the source each of so many readers reads at a time into its room for them, at least one.
+fn room_height(most: u32, columns: u32, lines: u32, readers: WorkerCount) -> u32
     requires any { 1 ≤ most }
     requires columns { columns ≤ most_side }
     requires lines { 1 ≤ lines }
     ensures some { 1 ≤ result }
     ensures bound { columns * result ≤ most_samples }
+    ensures share { columns * result ≤ room_of_each readers columns }
 {
     if columns == 0 {
         return 1;
     }
-    strip_lines(most, columns).min(lines)
+    let strip = strip_lines(most, columns).min(lines);
+    strip.min(lines_beside(readers, columns))
 }
 
 // Whether a line that isn't shown lies between any two that are, in a source whose lines are read one by one then.
@@ -70,27 +72,36 @@ fn is_sparse(translation: &Translation) -> bool {
     lines_apart(translation) == 0 && plan.window.h / 2 >= plan.size.h
 }
 
-// How many lines of the source there is room for: one where all of them are read straight into their place, or one by
-// one.
-fn room_lines(translation: &Translation, columns: &Columns, workers: WorkerCount) -> u32
+// For how many lines of the source each of so many readers has room: one where all of them are read straight into their
+// place, or one by one.
+fn room_lines(
+    translation: &Translation,
+    columns: &Columns,
+    workers: WorkerCount,
+    readers: WorkerCount,
+) -> u32
     requires translation { IsTranslation translation.now.cat translation.now.id translation.now.plan }
     requires columns { columns.now.count ≤ most_side }
     ensures some { 1 ≤ result }
     ensures bound { columns.now.count * result ≤ most_samples }
+    ensures share { columns.now.count * result ≤ room_of_each readers columns.now.count }
 {
     let size = source_size(translation);
     if is_all_direct(&translation.plan, columns, size.h) || is_sparse(translation) {
         return 1;
     }
-    room_height(most_lines(translation, workers), columns.count, size.h)
+    let most = most_lines(translation, workers);
+    room_height(most, columns.count, size.h, readers)
 }
 
 impl<F: Folder, L: Ledger> StripReader<F, L> {
-    /// A reader for a translation with a lane for each worker. Each lane holds so many blocks at a time, 1 to 65,536.
-    /// It has read nothing. The room for lines has 4,194,304 samples at most.
+    /// A reader for a translation with a lane for each worker, one of so many readers. Each lane holds so many blocks
+    /// at a time, 1 to 65,536. It has read nothing. The room for lines has 4,194,304 samples at most, those of all
+    /// readers together, unless each has room for one line.
     pub fn new(
         translation: &Translation,
         workers: WorkerCount,
+        readers: WorkerCount,
         capacity: u32,
         blank: Blank,
     ) -> Result<StripReader<F, L>, AllocError>
@@ -106,12 +117,14 @@ impl<F: Folder, L: Ledger> StripReader<F, L> {
         ensures room { IfOk result (λ reader. IsRoomFor translation.now.cat translation.now.id translation.now.plan
             reader.columns reader.samples.items) }
         ensures bound { IfOk result (λ reader. length reader.samples.items ≤ most_samples) }
+        ensures share { IfOk result (λ reader. length reader.samples.items ≤ room_of_each readers
+            reader.columns.count) }
         ensures none { IfOk result (λ reader. reader.team.loads ≡ 0) }
     {
         let alloc = translation.alloc;
         let size = source_size(translation);
         let columns = Columns::new(alloc, &translation.plan, size.w)?;
-        let lines = room_lines(translation, &columns, workers);
+        let lines = room_lines(translation, &columns, workers, readers);
         let samples = vec![in alloc; 0; area(columns.count, lines)]?;
         let team = Team::new(alloc, workers.get(), capacity, blank)?;
         Ok(StripReader {
@@ -130,8 +143,8 @@ pub struct Lines {
     pub end: u32,
 }
 
-// The columns and lines of the dataset.
-fn source_size(translation: &Translation) -> Size
+/// The columns and lines of the dataset.
+pub fn source_size(translation: &Translation) -> Size
     requires translation { IsTranslation translation.now.cat translation.now.id translation.now.plan }
     ensures size { (d : Dataset) → slice_get translation.now.cat translation.now.id ≡ Some d → result ≡ d.head.size }
     ensures limits { IsRaster result }
@@ -236,8 +249,8 @@ fn next_run<S: Scene>(shown: &Shown<S>, rows: u32, lines: Lines) -> Next
     Next { run, direct: false }
 }
 
-// The type of a band of the dataset, counted from 0.
-fn band_type_of(translation: &Translation, band: u32) -> PixelType
+/// The type of a band of the dataset, counted from 0.
+pub fn band_type_of(translation: &Translation, band: u32) -> PixelType
     requires translation { IsTranslation translation.now.cat translation.now.id translation.now.plan }
     requires known { (d : Dataset) → slice_get translation.now.cat translation.now.id ≡ Some d →
         band < band_count d.head }

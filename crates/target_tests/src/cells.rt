@@ -467,7 +467,8 @@ fn has_part(bytes: &[u8], at: usize, part: &[u8]) -> bool {
     bytes.get(at..at.saturating_add(part.len())) == Some(part)
 }
 
-fn has_each(bytes: &[u8], parts: &[(usize, &[u8])]) -> bool {
+/// Whether some bytes have these parts, each at its place.
+pub fn has_each(bytes: &[u8], parts: &[(usize, &[u8])]) -> bool {
     for (at, part) in parts {
         if !has_part(bytes, *at, part) {
             return false;

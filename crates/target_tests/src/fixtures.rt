@@ -216,8 +216,8 @@ pub fn has_all(alloc: Global, folder: &MemFolder, files: &[File]) -> Result<bool
     Ok(true)
 }
 
-// Whether the extension of the name is one of the plan's form.
-fn is_named_for(plan: &Plan, name: &Name) -> bool
+/// Whether the extension of the name is one of the plan's form.
+pub fn is_named_for(plan: &Plan, name: &Name) -> bool
     ensures named { result ≡ true → IsNamedFor plan.now name.now }
     ensures files { result ≡ true → plan.now.driver ≢ Vrt }
 {
@@ -252,8 +252,8 @@ fn samples_of(samples: &[Sample], at: u16, w: u16, h: u16) -> Option<&[Sample]>
     Some(&samples[from..from + count])
 }
 
-// Puts a window where it is one of the output.
-fn put<F: Folder, L: Ledger>(
+/// Puts a window where it is one of the output.
+pub fn put_window<F: Folder, L: Ledger>(
     alloc: Global,
     target: &mut Target<F>,
     folder: &mut F,
@@ -298,7 +298,7 @@ fn stays<F: Folder, L: Ledger>(
 ) -> bool
     requires target { IsTarget (F.names folder.old) target }
 {
-    let again = put(alloc, &mut target, folder, window, samples, writes) == Err(cause);
+    let again = put_window(alloc, &mut target, folder, window, samples, writes) == Err(cause);
     let published = 0;
     let closed = target.close(folder, writes);
     again && closed == Err(CloseFault { published, cause })
@@ -320,7 +320,7 @@ pub fn carried<F: Folder, L: Ledger>(
     let mut writes: Counter<L> = Counter::open(blank);
     let samples = story.samples;
     for window in story.windows {
-        match put(alloc, &mut target, folder, window, samples, &mut writes) {
+        match put_window(alloc, &mut target, folder, window, samples, &mut writes) {
             Ok(true) => {}
             Ok(false) => {
                 target.give_up(folder);
@@ -388,7 +388,7 @@ fn given_up<F: Folder, L: Ledger>(
     let samples = story.samples;
     let mut all = true;
     for window in story.windows {
-        if put(alloc, &mut target, folder, window, samples, &mut writes) != Ok(true) {
+        if put_window(alloc, &mut target, folder, window, samples, &mut writes) != Ok(true) {
             all = false;
         }
     }

@@ -1,5 +1,5 @@
-// Tests of `write_back`, by its public calls alone: windows through pools of each capacity, the files that are
-// published, and calls of the folder that fail.
+// Tests of `write_back`, by its public calls alone: windows through pools of each capacity, blocks past them, the files
+// that are published, and calls of the folder that fail.
 #![tactic(auto)]
 
 #[cfg(test)]
@@ -14,6 +14,8 @@ mod fixtures;
 mod grids;
 #[cfg(test)]
 mod outputs;
+#[cfg(test)]
+mod packed;
 #[cfg(test)]
 mod pixels;
 #[cfg(test)]

@@ -1,6 +1,7 @@
 pub mod Shorter
 pub mod StartTags
 pub mod Names
+mod Numbers
 pub mod Next
 pub mod EndTags
 mod Bare

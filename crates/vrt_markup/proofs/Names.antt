@@ -14,7 +14,7 @@ use Rattle.std.proofs.lemmas.Map.Keys.{IsDistinct-from_sorted, IsDistinct-IsPerm
 use Rattle.vrt_markup.specs.Items.{Pair, attribute, is_distinct, is_equal, is_some, spaces_at, pair_at, pairs, name_at, byte_at, value_at, trim_front, tag_end, tag_front, tag_at, Tag}
 use Rattle.lists_and_answers.specs.Options.{◌>>=◌}
 use Rattle.lists_and_answers.specs.Texts.{is_white}
-use Rattle.vrt_markup.specs.Keys.{sort_key_of, last_bytes, number_of, apart, double_from, double_of}
+use Rattle.vrt_markup.specs.Keys.{sort_key_of, name_number, number_of, apart, double_from, double_of}
 use Rattle.vrt_markup.proofs.Shorter.{pairs_next, pairs_none}
 
 both_ways : (a b : Bool) → (a ≡ true → b ≡ true) → (b ≡ true → a ≡ true) → a ≡ b
@@ -121,7 +121,7 @@ equal_flips (x ∷ xs) (y ∷ ys) = ap (λ b. b && is_equal xs ys) (nat_flips x 
 same_itself : (n : ℕ) → (n == n) ≡ true
 same_itself n = grind (arith, nat_tests)
 
-same_names : (a b : List ℕ) → ((last_bytes 0 a == last_bytes 0 b) && is_equal a b) ≡ is_equal b a
+same_names : (a b : List ℕ) → ((name_number a == name_number b) && is_equal a b) ≡ is_equal b a
 same_names a b = by_case (is_equal a b) refl ∙ equal_flips a b
   where
     and_false : (x : Bool) → (x && false) ≡ false
@@ -131,9 +131,9 @@ same_names a b = by_case (is_equal a b) refl ∙ equal_flips a b
     and_true : (x : Bool) → x ≡ true → (x && true) ≡ true
     and_true x e = ap (λ y. y && true) e
 
-    by_case : (t : Bool) → is_equal a b ≡ t → ((last_bytes 0 a == last_bytes 0 b) && is_equal a b) ≡ is_equal a b
-    by_case true e = ap (λ y. (last_bytes 0 a == last_bytes 0 b) && y) e ∙ and_true (last_bytes 0 a == last_bytes 0 b) (ap (λ n. last_bytes 0 a == last_bytes 0 n) (sym (same_text a b (sym e))) ∙ same_itself (last_bytes 0 a)) ∙ sym e
-    by_case false e = ap (λ y. (last_bytes 0 a == last_bytes 0 b) && y) e ∙ and_false (last_bytes 0 a == last_bytes 0 b) ∙ sym e
+    by_case : (t : Bool) → is_equal a b ≡ t → ((name_number a == name_number b) && is_equal a b) ≡ is_equal a b
+    by_case true e = ap (λ y. (name_number a == name_number b) && y) e ∙ and_true (name_number a == name_number b) (ap (λ n. name_number a == name_number n) (sym (same_text a b (sym e))) ∙ same_itself (name_number a)) ∙ sym e
+    by_case false e = ap (λ y. (name_number a == name_number b) && y) e ∙ and_false (name_number a == name_number b) ∙ sym e
 
 any_name : (p : Pair) (ps : List Pair) → list_any (same_key (sort_key_of p)) (map sort_key_of ps) ≡ is_some (attribute p.name ps)
 any_name p [] = refl
@@ -203,23 +203,28 @@ not_true : (a : Bool) → not a ≡ true → a ≡ false
 not_true false h = refl
 not_true true h = absurd cc
 
-absent_case : (p q : Pair) (qs : List Pair) (b : Bool) → is_equal q.name p.name ≡ b → (number_of p == number_of q) ≡ false → is_some (attribute p.name qs) ≡ false → is_some (cond b (Some q.value) (attribute p.name qs)) ≡ false
-absent_case p q qs true e apart later =
-    let hit : (number_of p == number_of q) ≡ true = ap (λ n. number_of p == last_bytes 0 n) (same_text q.name p.name (sym e)) ∙ same_itself (number_of p) in
+absent_case : (number : List ℕ → ℕ) (p q : Pair) (qs : List Pair) (b : Bool) → is_equal q.name p.name ≡ b → (number p.name == number q.name) ≡ false → is_some (attribute p.name qs) ≡ false → is_some (cond b (Some q.value) (attribute p.name qs)) ≡ false
+absent_case number p q qs true e apart later =
+    let hit : (number p.name == number q.name) ≡ true = ap (λ n. number p.name == number n) (same_text q.name p.name (sym e)) ∙ same_itself (number p.name) in
     absurd cc
-absent_case p q qs false e apart later = later
+absent_case number p q qs false e apart later = later
 
-absent : (p : Pair) (ps : List Pair) → list_any (λ n. number_of p == n) (map number_of ps) ≡ false → is_some (attribute p.name ps) ≡ false
-absent p [] h = refl
-absent p (q ∷ qs) h =
-    let both = or_both (number_of p == number_of q) (list_any (λ n. number_of p == n) (map number_of qs)) h in
-    absent_case p q qs (is_equal q.name p.name) refl both.0 (absent p qs both.1)
+absent : (number : List ℕ → ℕ) (p : Pair) (ps : List Pair) → list_any (λ n. number p.name == n) (map (λ (q : Pair). number q.name) ps) ≡ false → is_some (attribute p.name ps) ≡ false
+absent number p [] h = refl
+absent number p (q ∷ qs) h =
+    let both = or_both (number p.name == number q.name) (list_any (λ n. number p.name == n) (map (λ (q : Pair). number q.name) qs)) h in
+    absent_case number p q qs (is_equal q.name p.name) refl both.0 (absent number p qs both.1)
+
+-- Names whose numbers differ, whatever number each name has.
+pub numbers_differ : (number : List ℕ → ℕ) (ps : List Pair) → apart (λ x y. x == y) (map (λ (p : Pair). number p.name) ps) ≡ true → is_distinct ps ≡ true
+numbers_differ number [] h = refl
+numbers_differ number (p ∷ ps) h =
+    let numbers = map (λ (q : Pair). number q.name) ps in
+    let both = and_both (not (list_any (λ n. number p.name == n) numbers)) (apart (λ x y. x == y) numbers) h in
+    ap (λ b. not b && is_distinct ps) (absent number p ps (not_true (list_any (λ n. number p.name == n) numbers) both.0)) ∙ numbers_differ number ps both.1
 
 pub numbers_tell : (ps : List Pair) → apart (λ x y. x == y) (map number_of ps) ≡ true → is_distinct ps ≡ true
-numbers_tell [] h = refl
-numbers_tell (p ∷ ps) h =
-    let both = and_both (not (list_any (λ n. number_of p == n) (map number_of ps))) (apart (λ x y. x == y) (map number_of ps)) h in
-    ap (λ b. not b && is_distinct ps) (absent p ps (not_true (list_any (λ n. number_of p == n) (map number_of ps)) both.0)) ∙ numbers_tell ps both.1
+numbers_tell ps h = numbers_differ name_number ps h
 
 -- one name alone
 pub few_differ : (ps : List Pair) (ns : List ℕ) → ns ≡ map number_of ps → length ns < 2 → is_distinct ps ≡ true

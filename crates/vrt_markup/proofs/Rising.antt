@@ -4,10 +4,10 @@ use Rattle.std.proofs.lemmas.Bool.Decides.{nat_tests}
 use Rattle.std.specs.List.{list_any}
 use Rattle.lists_and_answers.specs.Options.{◌>>=◌}
 use Rattle.vrt_markup.specs.Items.{Pair, option_case, is_distinct, pair_at, pairs, name_at, trim_front, tag_end, tag_at, tag_item, bad, open_tag}
-use Rattle.vrt_markup.specs.Keys.{number_of, apart, Spread, spread_with, spreads}
+use Rattle.vrt_markup.specs.Keys.{last_bytes, last_number_of, apart, Spread, spread_with, spreads}
 use Rattle.vrt_markup.proofs.Shorter.{pairs_next}
 use Rattle.vrt_markup.proofs.EndTags.{and_both}
-use Rattle.vrt_markup.proofs.Names.{numbers_tell, tag_endless, front_by, by_tag, tag_by}
+use Rattle.vrt_markup.proofs.Names.{numbers_differ, tag_endless, front_by, by_tag, tag_by}
 
 -- What a number is that is among the numbers so far.
 abbrev IsAmong : Spread → ℕ → Type 0
@@ -64,14 +64,14 @@ spread_apart s (n ∷ ns) h =
     let next = spread_case (spread_with s n) ns h in
     ap (λ b. not b && apart (λ x y. x == y) ns) (past_all next.0 n ns (one_among s n next.0 next.1) next.2) ∙ spread_apart next.0 ns next.2
 
-pub spread_differ : (s : Spread) (ps : List Pair) → spreads s (map number_of ps) ≡ true → is_distinct ps ≡ true
-spread_differ s ps h = numbers_tell ps (spread_apart s (map number_of ps) h)
+pub spread_differ : (s : Spread) (ps : List Pair) → spreads s (map last_number_of ps) ≡ true → is_distinct ps ≡ true
+spread_differ s ps h = numbers_differ last_bytes ps (spread_apart s (map last_number_of ps) h)
 
 -- One attribute more.
-pub spreads_more : (s u : Spread) (n : ℕ) (t : List ℕ) (p : Pair) (r : List ℕ) → Some u ≡ spread_with s n → n ≡ number_of p → pair_at t ≡ Some (p, r) → spreads u (map number_of (pairs r).0) ≡ spreads s (map number_of (pairs t).0)
+pub spreads_more : (s u : Spread) (n : ℕ) (t : List ℕ) (p : Pair) (r : List ℕ) → Some u ≡ spread_with s n → n ≡ last_number_of p → pair_at t ≡ Some (p, r) → spreads u (map last_number_of (pairs r).0) ≡ spreads s (map last_number_of (pairs t).0)
 spreads_more s u n t p r more same e =
-    ap (λ o. option_case o false (λ v. spreads v (map number_of (pairs r).0))) (more ∙ ap (spread_with s) same)
-    ∙ ap (λ (x : List Pair × List ℕ). spreads s (map number_of x.0)) (sym (pairs_next t p r e))
+    ap (λ o. option_case o false (λ v. spreads v (map last_number_of (pairs r).0))) (more ∙ ap (spread_with s) same)
+    ∙ ap (λ (x : List Pair × List ℕ). spreads s (map last_number_of x.0)) (sym (pairs_next t p r e))
 
 tag_whole : (t n a r : List ℕ) (e : Bool) → Some (n, a) ≡ name_at t → is_distinct (pairs a).0 ≡ true → Some (e, r) ≡ tag_end (trim_front (pairs a).1) → tag_at t ≡ Some (record { name = n; pairs = (pairs a).0; empty = e }, r)
 tag_whole t n a r e name distinct end =

@@ -1,21 +1,37 @@
 -- The keys by which the names of a tag's attributes are sorted, and texts that stand in a document as they are.
-use Rattle.std.specs.Prelude.{ℕ, ◌+◌, ◌*◌, ◌%◌, ◌==◌, Bool, true, false, not, ◌&&◌, List, [], ◌∷◌, Option, Some, None}
-use Rattle.std.specs.Prelude.{if◌then◌else◌, nat_lt}
+use Rattle.std.specs.Prelude.{ℕ, ◌+◌, ◌-◌, ◌*◌, ◌%◌, ◌==◌, Bool, true, false, not, ◌&&◌, List, [], ◌∷◌}
+use Rattle.std.specs.Prelude.{if◌then◌else◌, nat_lt, length, drop, Option, Some, None}
+use Rattle.std.specs.Int.{w64, from_be_bytes}
 use Rattle.std.specs.List.{list_any}
+use Rattle.vrt_markup.specs.Hashes.{text_hash}
 use Rattle.vrt_markup.specs.Items.{Pair, option_case, less_than, ampersand}
 
--- the number that the last eight bytes of a text make, behind those of a word
-abbrev pub last_bytes : ℕ → List ℕ → ℕ
-last_bytes word [] = word
-last_bytes word (c ∷ cs) = last_bytes (word % 72057594037927936 * 256 + c) cs
+-- the number that the bytes of a text make, each of which counts 256 times as much as the next one, behind those of a
+-- word
+abbrev pub bytes_number : ℕ → List ℕ → ℕ
+bytes_number word [] = word
+bytes_number word (c ∷ cs) = bytes_number (word % 72057594037927936 * 256 + c) cs
 
--- a name behind the number of its last bytes
+-- the number that the last eight bytes of a name make, or all bytes of a shorter one
+unfoldable pub last_bytes : List ℕ → ℕ
+last_bytes name = if nat_lt (length name) 8 then bytes_number 0 name else
+    from_be_bytes w64 (drop (length name - 8) name)
+
+-- the number by which a name is told from others: that of its bytes, or the hash of a name of more than eight
+unfoldable pub name_number : List ℕ → ℕ
+name_number name = if nat_lt 8 (length name) then text_hash 0 name else last_bytes name
+
+-- a name behind its number
 abbrev pub sort_key_of : Pair → ℕ × List ℕ
-sort_key_of p = (last_bytes 0 p.name, p.name)
+sort_key_of p = (name_number p.name, p.name)
 
 -- the number alone
 abbrev pub number_of : Pair → ℕ
-number_of p = last_bytes 0 p.name
+number_of p = name_number p.name
+
+-- the number of the last bytes of its name
+abbrev pub last_number_of : Pair → ℕ
+last_number_of p = last_bytes p.name
 
 -- whether no element is the same as one behind it
 abbrev pub apart : {X : Type 0} → (X → X → Bool) → List X → Bool

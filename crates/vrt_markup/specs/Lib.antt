@@ -5,6 +5,7 @@ pub mod Tree
 pub mod Faults
 pub mod Views
 pub mod Kept
+pub mod Hashes
 -- What private clauses, views and proofs speak of.
 pub mod Keys
 pub mod Attributes

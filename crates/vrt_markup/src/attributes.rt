@@ -2,9 +2,11 @@
 ghost use Rattle.std.specs.Prelude.{◌≡◌, ◌<◌, ◌≤◌, ◌==◌, ℕ, List, length, map, true, false, IfSome, IfOk, None};
 ghost use Rattle.std.specs.Option.{option_map};
 ghost use Rattle.vrt_markup.specs.Items.{is_some, pair_at, is_equal, pairs, attribute, is_distinct};
-ghost use Rattle.vrt_markup.specs.Keys.{last_bytes, sort_key_of, number_of, apart, double_from, double_of, spread_with};
+ghost use Rattle.vrt_markup.specs.Keys.{bytes_number, last_bytes, name_number, sort_key_of, number_of, apart};
+ghost use Rattle.vrt_markup.specs.Keys.{double_from, double_of, spread_with};
 ghost use Rattle.vrt_markup.specs.Attributes.{pair_view, spread_view};
 
+use crate::hash::text_hash;
 use crate::tokens::{byte_at, has_space, name_at, spaces_at, trim_front, value_at};
 use std::alloc::{AllocError, Global};
 
@@ -71,9 +73,9 @@ pub fn attribute_front<'a>(text: &'a [u8], name: &[u8]) -> (Option<&'a [u8]>, &'
     }
 }
 
-/// The number that the last eight bytes of a name make.
-fn last_bytes(name: &[u8]) -> u64
-    ensures number { result ≡ last_bytes 0 name.now }
+/// The number that the bytes of a name of fewer than eight make.
+fn short_number(name: &[u8]) -> u64
+    ensures number { result ≡ bytes_number 0 name.now }
 {
     let mut word: u64 = 0;
     let mut rest = name;
@@ -84,8 +86,31 @@ fn last_bytes(name: &[u8]) -> u64
     word
 }
 
-/// The attributes' names, each behind the number of its last bytes, by which most names differ
-/// already.
+/// The number that the last eight bytes of a name make.
+#[tactic(auto, using(crate::proofs::Numbers::last_word, crate::proofs::Numbers::last_short))]
+fn last_bytes(name: &[u8]) -> u64
+    ensures number { result ≡ last_bytes name.now }
+{
+    let Some((_, last)) = name.split_last_chunk::<8>() else {
+        return short_number(name);
+    };
+    u64::from_be_bytes(*last)
+}
+
+/// The number by which a name is told from others. That of up to eight bytes is theirs, which no other name of so few
+/// has; that of more is a hash, since names may end alike.
+#[tactic(auto, unfolding(crate::specs::Keys::name_number))]
+fn name_number(name: &[u8]) -> u64
+    ensures number { result ≡ name_number name.now }
+{
+    if name.len() > 8 {
+        return text_hash(0, name);
+    }
+    last_bytes(name)
+}
+
+/// The attributes' names, each behind its number, so that the names themselves are compared only where
+/// two numbers are the same.
 #[tactic(auto, using(crate::proofs::Shorter::pairs_next, crate::proofs::Shorter::pairs_none))]
 fn keys_of(alloc: Global, text: &[u8]) -> Result<Vec<(u64, &[u8])>, AllocError>
     ensures keys { IfOk result (λ v. map (λ k. (k.0, k.1.now)) v.items ≡ map sort_key_of (pairs text.now).0) }
@@ -93,7 +118,7 @@ fn keys_of(alloc: Global, text: &[u8]) -> Result<Vec<(u64, &[u8])>, AllocError>
     let mut keys = Vec::new(alloc);
     let mut rest = text;
     while let Some((pair, more)) = pair_at(rest) {
-        keys.push((last_bytes(pair.name), pair.name))?;
+        keys.push((name_number(pair.name), pair.name))?;
         rest = more;
     }
     Ok(keys)
@@ -158,7 +183,7 @@ fn stands_twice(text: &[u8], number: u64) -> bool
 {
     let mut rest = text;
     while let Some((pair, more)) = pair_at(rest) {
-        if last_bytes(pair.name) == number {
+        if name_number(pair.name) == number {
             return has_attribute(more, pair.name);
         }
         rest = more;
@@ -198,7 +223,7 @@ pub(crate) fn numbers_of(
     }
     let mut rest = text;
     while let Some((pair, more)) = pair_at(rest) {
-        numbers.push(last_bytes(pair.name))?;
+        numbers.push(name_number(pair.name))?;
         if stands_twice_early(alloc, text, &numbers)? {
             return Ok(None);
         }

@@ -13,7 +13,7 @@ use Rattle.outside.specs.Outside.{put_at, Written}
 use Rattle.geotransform.specs.Types.{is_in}
 use Rattle.geotransform.specs.declared.types.PixelType.TheVariants.{Int16}
 use Rattle.esri_hdr.specs.Head.{Head}
-use Rattle.hgt_tiles.specs.Samples.{hgt_at, line_of, row_bytes, sample_bytes}
+use Rattle.hgt_tiles.specs.Samples.{hgt_at, line_of, row_bytes, row_of, sample_bytes}
 use Rattle.lists_and_answers.specs.Places.{StandsAt}
 use Rattle.hgt_tiles.proofs.Rows.{row_again, row_stands, sample_bytes_len}
 use Rattle.band_blocks.specs.declared.key.BlockKey.{BlockKey}
@@ -85,46 +85,50 @@ bytes_len (n ∷ ns) = let a = length-append (sample_bytes n) (row_bytes ns) in 
 pub other_block : (key : BlockKey) (k v : ℕ) → key.dataset ≡ 0 → key.band < 1 → k < 1 → (line_key k v ≡ key → ⊥) → v ≡ key.block → ⊥
 other_block key k v file band one other same = other (ap (λ n. line_key n v) (let e : k ≡ key.band = omega arith in e) ∙ ap (λ n. line_key key.band n) same ∙ line_is key file)
 
--- the line of a tile that was written
-module _ (side : ℕ) (key : BlockKey) (samples : List ℤ) (b : List ℕ) (file : key.dataset ≡ 0) (band : key.band < 1) (line : key.block < side) (count : length samples ≡ side) (range : All (λ n. is_in Int16 n ≡ true) samples)
-    (small : AreBytes (row_bytes samples)) (long : length b ≡ 2 * (side * side)) where
+-- the line of a tile that was written, by its bytes
+module _ (side : ℕ) (key : BlockKey) (samples : List ℤ) (ys b : List ℕ) (file : key.dataset ≡ 0) (band : key.band < 1) (line : key.block < side) (len : length ys ≡ 2 * side) (same : row_of ys side ≡ samples)
+    (small : AreBytes ys) (long : length b ≡ 2 * (side * side)) where
   more : (v y : ℕ) → v < y → v * side + side ≤ y * side
   more v y less = let big : suc v * side ≤ y * side = mul-le-mul_right side less in let e : suc v * side ≡ v * side + side = grind arith in omega arith
 
-  within : 2 * (key.block * side) + length (row_bytes samples) ≤ length b
-  within = let n = bytes_len samples in let m = more key.block side line in omega arith
+  within : 2 * (key.block * side) + length ys ≤ length b
+  within = let m = more key.block side line in omega arith
 
-  here : (u : ℕ) → u < side → hgt_at side (put_at (2 * (key.block * side)) (row_bytes samples) b) u key.block ≡ get_or samples u (pos 0)
+  here : (u : ℕ) → u < side → hgt_at side (put_at (2 * (key.block * side)) ys b) u key.block ≡ get_or samples u (pos 0)
   here u less =
-      let c : List ℕ = put_at (2 * (key.block * side)) (row_bytes samples) b in
       let at : 2 * (key.block * side) ≡ 2 * (key.block * side + 0) = omega arith in
-      let stands : StandsAt (put_at (2 * (key.block * side)) (row_bytes samples) b) (row_bytes samples) (2 * (key.block * side + 0)) = subst (λ k. StandsAt (put_at (2 * (key.block * side)) (row_bytes samples) b) (row_bytes samples) k) at (put_stands (2 * (key.block * side)) (row_bytes samples) b within) in
-      let rows = row_stands (put_at (2 * (key.block * side)) (row_bytes samples) b) (row_bytes samples) side 0 key.block (length samples) (bytes_len samples) stands in
-      ap (λ n. hgt_at side (put_at (2 * (key.block * side)) (row_bytes samples) b) n key.block) (sym (zero-add u))
-      ∙ sym (get_or-map-range_with_len (λ i. hgt_at side (put_at (2 * (key.block * side)) (row_bytes samples) b) (0 + i) key.block) 0 (length samples) u u (pos 0) (omega arith) (zero-add u))
-      ∙ ap (λ (l : List ℤ). get_or l u (pos 0)) (sym rows ∙ row_again samples range)
+      let stands : StandsAt (put_at (2 * (key.block * side)) ys b) ys (2 * (key.block * side + 0)) = subst (λ k. StandsAt (put_at (2 * (key.block * side)) ys b) ys k) at (put_stands (2 * (key.block * side)) ys b within) in
+      let rows = row_stands (put_at (2 * (key.block * side)) ys b) ys side 0 key.block side len stands in
+      ap (λ n. hgt_at side (put_at (2 * (key.block * side)) ys b) n key.block) (sym (zero-add u))
+      ∙ sym (get_or-map-range_with_len (λ i. hgt_at side (put_at (2 * (key.block * side)) ys b) (0 + i) key.block) 0 side u u (pos 0) less (zero-add u))
+      ∙ ap (λ (l : List ℤ). get_or l u (pos 0)) (sym rows ∙ same)
 
-  others : (k u v : ℕ) → IsSpot (Hgt side) k u v → (line_key k v ≡ key → ⊥) → hgt_at side (put_at (2 * (key.block * side)) (row_bytes samples) b) u v ≡ hgt_at side b u v
+  others : (k u v : ℕ) → IsSpot (Hgt side) k u v → (line_key k v ≡ key → ⊥) → hgt_at side (put_at (2 * (key.block * side)) ys b) u v ≡ hgt_at side b u v
   others k u v spot other =
-      let n = bytes_len samples in
       let s = spot.spot in
       let m = more v side spot.block in
-      ap (λ (l : List ℕ). cast_signed w16 (big_number 2 l)) (part_apart 2 (2 * (v * side + u)) (2 * (key.block * side)) (row_bytes samples) b within (omega arith)
+      ap (λ (l : List ℕ). cast_signed w16 (big_number 2 l)) (part_apart 2 (2 * (v * side + u)) (2 * (key.block * side)) ys b within (omega arith)
       (⊎_elim (λ (before : v < key.block). inl (let a = more v key.block before in omega arith))
       (λ (from : key.block ≤ v). ⊎_elim (λ (behind : key.block < v). inr (let a = more key.block v behind in omega arith))
       (λ (same : v ≤ key.block). absurd (other_block key k v file band spot.band other (omega arith)))
       (cases_lt key.block v))
       (cases_lt v key.block)))
 
-  pub tile_written : IsBlockWritten (Hgt side) key samples b (put_at (2 * (key.block * side)) (row_bytes samples) b)
-  tile_written = record {
-    len = put_len (2 * (key.block * side)) (row_bytes samples) b within;
-    formed = λ old. put_small (2 * (key.block * side)) (row_bytes samples) b within old small;
+  pub tile_put : IsBlockWritten (Hgt side) key samples b (put_at (2 * (key.block * side)) ys b)
+  tile_put = record {
+    len = put_len (2 * (key.block * side)) ys b within;
+    formed = λ old. put_small (2 * (key.block * side)) ys b within old small;
     here = here;
     others = others;
     met = tt;
     stays = λ v less was. tt;
   }
+
+-- the same by its samples
+pub tile_written : (side : ℕ) (key : BlockKey) (samples : List ℤ) (b : List ℕ) → key.dataset ≡ 0 → key.band < 1 → key.block < side → length samples ≡ side → All (λ n. is_in Int16 n ≡ true) samples → AreBytes (row_bytes samples) → length b ≡ 2 * (side * side)
+    → IsBlockWritten (Hgt side) key samples b (put_at (2 * (key.block * side)) (row_bytes samples) b)
+tile_written side key samples b file band line count range small long =
+    tile_put side key samples (row_bytes samples) b file band line (bytes_len samples ∙ ap (λ n. 2 * n) count) (subst (λ n. row_of (row_bytes samples) n ≡ samples) count (row_again samples range)) small long
 
 pub tile_row : (side : ℕ) (b : List ℕ) (band y : ℕ) → line_of side b 0 y side ≡ held_in (Hgt side) b band y
 tile_row side b band y = range_same (λ i. hgt_at side b (0 + i) y) (λ i. hgt_at side b i y) side (λ i less. ap (λ j. hgt_at side b j y) (zero-add i))

@@ -18,6 +18,8 @@ pub mod Lines
 pub mod Made
 pub mod MetColumns
 pub mod Outputs
+pub mod Packs
+pub mod Past
 pub mod Plain
 pub mod Published
 pub mod Readings

@@ -10,7 +10,7 @@ use Rattle.write_back.specs.View.{Output, Blocks, Rows, SheetView, window_blocks
 use Rattle.write_back.specs.Served.{Keeps, PutsWindow}
 use Rattle.write_back.specs.Files.{header_in, HasHeader, IsForm, IsTarget}
 
-right_after : (o : Output) (told told' : Option Files) (band : ℕ) (rect : Rect) (samples : List ℤ) (s n : SheetView) (done : Result (Unit {0}) TargetFault) → n.output ≡ s.output → OnOk done (PutsWindow band rect samples told told' s n) → result_err done ≡ None → IsRightOn n.output told' n
+pub right_after : (o : Output) (told told' : Option Files) (band : ℕ) (rect : Rect) (samples : List ℤ) (s n : SheetView) (done : Result (Unit {0}) TargetFault) → n.output ≡ s.output → OnOk done (PutsWindow band rect samples told told' s n) → result_err done ≡ None → IsRightOn n.output told' n
 right_after o told told' band rect samples s n (Ok x) same put none = subst (λ u. IsRightOn u told' n) (sym same) put.right
 right_after o told told' band rect samples s n (Err e) same put none = absurd (let clash : Some e ≡ None = none in cc)
 

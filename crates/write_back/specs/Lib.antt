@@ -7,6 +7,7 @@ pub mod Grids
 pub mod Reading
 pub mod View
 pub mod Overlay
+pub mod Packed
 pub mod Windows
 pub mod State
 pub mod Pieces

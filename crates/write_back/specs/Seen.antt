@@ -1,10 +1,16 @@
 -- How an output's data is seen.
 use Rattle.std.specs.Prelude.{ℕ, List, [], Option}
 use Rattle.outside.specs.declared.folder.Folder.{Ghosts}
+use Rattle.dted_records.specs.Text.{head_text}
 use Rattle.block_cache.specs.Entries.{pool_view}
+use Rattle.write_back.specs.declared.forms.Writer.{Writer}
+use Rattle.write_back.specs.declared.forms.Writer.TheVariants as writers
+use Rattle.write_back.specs.declared.packing.PackedForm.{PackedForm}
+use Rattle.write_back.specs.declared.packing.PackedForm.TheVariants as forms
 use Rattle.write_back.specs.declared.sheet.Kind.{Kind}
 use Rattle.write_back.specs.declared.sheet.Kind.TheVariants as kinds
 use Rattle.write_back.specs.declared.store.Store.{Store}
+use Rattle.write_back.specs.Columns.{cell_with_front}
 use Rattle.write_back.specs.Stores.{StoreState, store_state}
 use Rattle.write_back.specs.Unwritten.{known}
 use Rattle.write_back.specs.View.{Blocks, Rows, SheetView}
@@ -37,3 +43,9 @@ sheet_of bytes len name (kinds.Rows r) = record {
   name = name r.draft;
   lines = r.lines;
 }
+
+-- blocks are packed for what writes them
+abbrev pub writer_by : PackedForm → Writer
+writer_by (forms.Lines h) = writers.Raw h
+writer_by (forms.Tile side) = writers.Hgt side
+writer_by (forms.Columns h) = writers.Dted (cell_with_front h (head_text h))

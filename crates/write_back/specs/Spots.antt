@@ -1,7 +1,8 @@
 -- Where samples of a line of a file stand, one by one.
-use Rattle.std.specs.Prelude.{ℕ, ◌<◌, ◌+◌, ◌*◌, Bool, if◌then◌else◌, ℤ, map, List, None, ◌≡◌, ◌≤◌, get_or, pos, length}
-use Rattle.std.specs.Prelude.{take, drop}
+use Rattle.std.specs.Prelude.{ℕ, ◌<◌, ◌+◌, ◌*◌, Bool, true, if◌then◌else◌, ℤ, map, List, None, ◌≡◌, ◌≤◌, get_or, pos}
+use Rattle.std.specs.Prelude.{length, take, drop}
 use Rattle.std.specs.List.{range_with_len}
+use Rattle.geotransform.specs.declared.types.PixelType.TheVariants.{Int16}
 use Rattle.esri_hdr.specs.Head.{Head, sample_len}
 use Rattle.esri_hdr.specs.declared.header_parts.Layout.TheVariants.{Bsq}
 use Rattle.write_back.specs.declared.forms.Writer.{Writer}
@@ -55,6 +56,25 @@ plain_of h = record {
   skip = 0;
   band_row = sample_len h.kind;
   total_row = sample_len h.kind;
+  gap = 0;
+  nodata = None;
+  geo = None;
+}
+
+-- the same, of the samples of a tile
+abbrev pub item_head : Head
+item_head = record {
+  size = record {
+    w = 1;
+    h = 1;
+  };
+  bands = 1;
+  kind = Int16;
+  big = true;
+  layout = Bsq;
+  skip = 0;
+  band_row = 2;
+  total_row = 2;
   gap = 0;
   nodata = None;
   geo = None;

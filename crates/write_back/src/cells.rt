@@ -98,6 +98,31 @@ impl ColumnWriter {
         put_record(folder, draft, &head, x, block, bytes)
     }
 
+    // Puts a record into the draft, whose bytes these are.
+    pub(crate) fn put_column<F: Folder>(
+        &self,
+        folder: &mut F,
+        draft: &mut F::Draft,
+        x: u32,
+        bytes: &[u8],
+    ) -> Result<(), TargetFault>
+        requires column { x < self.now.head.lines }
+        requires bytes { length bytes.now ≡ record_len self.now.head }
+        requires long { F.draft_len draft.old ≡ needed_of self.now.head }
+        ensures told { OnOk result (Written (record_of self.now.head x) bytes.now (F.draft_bytes draft.old)
+            (F.draft_bytes draft.new)) }
+        ensures small { AreBytes bytes.now }
+        ensures len { OnOk result (F.draft_len draft.new ≡ F.draft_len draft.old) }
+        ensures name { F.draft_name draft.new ≡ F.draft_name draft.old }
+        ensures names { F.names folder.new ≡ F.names folder.old }
+        ensures reads { F.read_calls folder.new ≡ F.read_calls folder.old }
+        ensures calls { F.write_calls folder.new ≡ one_more (F.write_calls folder.old) }
+        ensures cause { HasCause TargetFault.FolderFault (F.faults folder.old) (F.faults folder.new) result }
+    {
+        let head = self.head;
+        put_record_bytes(folder, draft, &head, x, bytes)
+    }
+
     // Reads a column from the draft, as a whole record.
     pub(crate) fn read_column<F: Folder>(
         &mut self,
@@ -172,6 +197,30 @@ fn put_record<F: Folder>(
     // This read is made for the proof: it says what holds of every head.
     let _lines = head.lines;
     block.encode_record(x, bytes);
+    put_bytes(folder, draft, head.record_at(x), bytes)
+}
+
+// Puts a record into a draft, whose bytes these are.
+fn put_record_bytes<F: Folder>(
+    folder: &mut F,
+    draft: &mut F::Draft,
+    head: &DtedHead,
+    x: u32,
+    bytes: &[u8],
+) -> Result<(), TargetFault>
+    requires column { x < head.now.lines }
+    requires bytes { length bytes.now ≡ record_len head.now }
+    requires long { F.draft_len draft.old ≡ needed_of head.now }
+    ensures told { OnOk result (Written (record_of head.now x) bytes.now (F.draft_bytes draft.old)
+        (F.draft_bytes draft.new)) }
+    ensures small { AreBytes bytes.now }
+    ensures len { OnOk result (F.draft_len draft.new ≡ F.draft_len draft.old) }
+    ensures name { F.draft_name draft.new ≡ F.draft_name draft.old }
+    ensures names { F.names folder.new ≡ F.names folder.old }
+    ensures reads { F.read_calls folder.new ≡ F.read_calls folder.old }
+    ensures calls { F.write_calls folder.new ≡ one_more (F.write_calls folder.old) }
+    ensures cause { HasCause TargetFault.FolderFault (F.faults folder.old) (F.faults folder.new) result }
+{
     put_bytes(folder, draft, head.record_at(x), bytes)
 }
 

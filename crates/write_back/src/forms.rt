@@ -5,6 +5,7 @@ ghost use Rattle.write_back.specs.Forms.{band_total, cut_of, line_total, holds, 
 ghost use Rattle.write_back.specs.Forms.{IsFormed};
 ghost use Rattle.write_back.specs.Spots.{band_places_of, most_spots};
 ghost use Rattle.write_back.specs.Overlay.{held_in, line_key, IsLine};
+ghost use Rattle.write_back.specs.Packed.{block_len, in_bytes, IsBlockOf};
 ghost use Rattle.write_back.specs.Stores.{IsBlockWritten};
 
 use crate::TargetFault;
@@ -163,6 +164,37 @@ impl Writer {
             Writer::Raw(lines) => lines.write_line(folder, draft, band, block, from),
             Writer::Hgt(tile) => tile.write_line(folder, draft, block, from),
             Writer::Dted(cell) => cell.write_column(folder, draft, block, from),
+        }
+    }
+
+    // Puts a block into the draft, whose bytes these are.
+    pub(crate) fn put_block<F: Folder>(
+        &self,
+        folder: &mut F,
+        draft: &mut F::Draft,
+        band: u32,
+        block: u32,
+        bytes: &[u8],
+    ) -> Result<(), TargetFault>
+        requires band { band < (cut_of self.now).bands }
+        requires block { block < (cut_of self.now).blocks }
+        requires bytes { length bytes.now ≡ block_len self.now }
+        requires whole { IsBlockOf self.now block bytes.now }
+        requires long { F.draft_len draft.old ≡ needed_of self.now }
+        ensures told { OnOk result ((b : List ℕ) → F.draft_bytes draft.old ≡ Some b → length b ≡ needed_of self.now →
+            IsFormed self.now b → (c : List ℕ) × (F.draft_bytes draft.new ≡ Some c) ×
+            IsBlockWritten self.now (line_key band block) (in_bytes self.now bytes.now) b c) }
+        ensures len { OnOk result (F.draft_len draft.new ≡ F.draft_len draft.old) }
+        ensures name { F.draft_name draft.new ≡ F.draft_name draft.old }
+        ensures names { F.names folder.new ≡ F.names folder.old }
+        ensures reads { F.read_calls folder.new ≡ F.read_calls folder.old }
+        ensures calls { F.write_calls folder.new ≤ F.write_calls folder.old + most_calls self.now }
+        ensures cause { HasCause TargetFault.FolderFault (F.faults folder.old) (F.faults folder.new) result }
+    {
+        match self {
+            Writer::Raw(lines) => lines.put_line(folder, draft, band, block, bytes),
+            Writer::Hgt(tile) => tile.put_row(folder, draft, block, bytes),
+            Writer::Dted(cell) => cell.put_column(folder, draft, block, bytes),
         }
     }
 

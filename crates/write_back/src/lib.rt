@@ -8,6 +8,8 @@ mod drafts;
 mod fault;
 mod forms;
 mod law;
+mod packing;
+mod passing;
 mod pieces;
 mod rows;
 mod sheet;
@@ -24,4 +26,5 @@ pub use law::{
     outputs_decode, outputs_have_sizes, outputs_hold_pixels, plain_heads_are_tight,
     windows_show_the_last,
 };
+pub use packing::Packing;
 pub use target::Target;

@@ -12,6 +12,7 @@ ghost use Rattle.block_cache.specs.Entries.{pool_view, IsPool};
 ghost use Rattle.write_back.specs.declared.forms.Writer.TheVariants.{Raw, Hgt, Dted};
 ghost use Rattle.write_back.specs.declared.fault.TargetFault.{TargetFault};
 ghost use Rattle.write_back.specs.Columns.{cell_with_front};
+ghost use Rattle.write_back.specs.Packed.{packed_blocks, packed_in, packed_len, packed_rect, AreApart, IsPackedOf};
 ghost use Rattle.write_back.specs.View.{Blocks, Rows, all_blocks, bands_of, window_blocks, calls_of, columns_of};
 ghost use Rattle.write_back.specs.View.{is_writable, lines_after, line_count_of, AreWritable, IsNext, IsPooled};
 ghost use Rattle.write_back.specs.View.{MeetsAll, Shows};
@@ -343,6 +344,56 @@ impl<F: Folder> Target<F> {
         let done = self.sheet.put(alloc, folder, band, rect, samples, writes);
         let fault = done.err();
         self.fault = fault;
+        done
+    }
+
+    /// Puts a whole block of a band, whose bytes these are, into the draft past the pool, which holds none: a line, or
+    /// a column of a cell, whose bytes are those of its record. The samples of each block are of one band. It is as if
+    /// `write_window` were called with the samples of these bytes. `writes` is ticked once where the block is written.
+    pub fn write_packed<L: Ledger>(
+        &mut self,
+        folder: &mut F,
+        band: u32,
+        block: u32,
+        bytes: &[u8],
+        writes: &mut Counter<L>,
+    ) -> Result<(), TargetFault>
+        requires target { IsTarget (F.names folder.old) self.old }
+        requires apart { AreApart self.old.output }
+        requires empty { self.old.pool.entries ≡ [] }
+        requires band { band < bands_of self.old.output }
+        requires block { block < packed_blocks self.old.output }
+        requires bytes { length bytes.now ≡ packed_len self.old.output }
+        requires whole { IsPackedOf self.old.output block bytes.now }
+        ensures target { IsTarget (F.names folder.new) self.new }
+        ensures output { self.new.output ≡ self.old.output }
+        ensures name { self.new.name ≡ self.old.name }
+        ensures pool { self.new.pool ≡ self.old.pool }
+        // the samples of the bytes stand in the block, and all others are as before
+        ensures overlay { OnOk result (Shows (F.names folder.old) band (packed_rect self.old.output block)
+            (packed_in self.old.output bytes.now) self.old self.new) }
+        ensures met { OnOk result (MeetsAll (F.names folder.old) (packed_rect self.old.output block) self.old
+            self.new) }
+        ensures lines { OnOk result (self.new.lines ≡ lines_after self.old.output self.old.lines
+            (packed_rect self.old.output block)) }
+        ensures fault { self.new.fault ≡ result_err result }
+        ensures earlier { IfSome self.old.fault (λ f. result ≡ Err f) }
+        ensures still { IsSome self.old.fault → F.faults folder.new ≡ F.faults folder.old }
+        ensures cause { self.old.fault ≡ None → HasCause TargetFault.FolderFault (F.faults folder.old)
+            (F.faults folder.new) result }
+        ensures later { F.faults folder.old ≤ F.faults folder.new }
+        ensures names { F.names folder.new ≡ F.names folder.old }
+        ensures reads { F.read_calls folder.new ≡ F.read_calls folder.old }
+        ensures counted { writes.old ≤ writes.new }
+        ensures few { writes.new ≤ writes.old + 1 }
+        ensures calls { F.write_calls folder.new ≤ F.write_calls folder.old + calls_of self.old.output
+            * (writes.new - writes.old) }
+    {
+        if let Some(fault) = self.fault {
+            return Err(fault);
+        }
+        let done = self.sheet.put_past(folder, band, block, bytes, writes);
+        self.fault = done.err();
         done
     }
 

@@ -28,3 +28,10 @@ returns-in-Vrt-clause-changed g c =
 
 pub returns-in-Vrt-clause-kept : goal.returns-in-Vrt-clause-kept
 returns-in-Vrt-clause-kept g c = kept_outside c.write_document.result _ c.write_document.ensures.outside
+
+pub returns-in-Some-clause-goes : goal.returns-in-Some-clause-goes
+returns-in-Some-clause-goes g c = λ m d told at.
+    let p = c.args.translation.now.plan in
+    subst (λ (s : List Step). Goes (all_done s) m c.write_packed.result (g.F.Folder.names c.write_packed.new.folder) (g.O.Sink.got c.args.out.now) (g.O.Sink.got c.write_packed.new.out))
+    (samples_middle m d p c.args.writing.now.name.now c.args.writing.now.quiet (λ mosaic. c.in_default.not-Vrt (ap (λ (t : Translation). t.plan.driver) c.translation.view_is ∙ mosaic)))
+    (c.write_packed.ensures.goes m d told at)

@@ -8,3 +8,9 @@ ghosts-write_files-W-Ledger g a = record { name = a.writes.name; parts = a.write
 
 abbrev pub ghosts-write_files-S-Scene : goal.ghosts-write_files-S-Scene
 ghosts-write_files-S-Scene g a = record { told = g.F.Folder.names a.folder.now; cat = a.translation.now.cat }
+
+abbrev pub ghosts-write_packed-W-Ledger : goal.ghosts-write_packed-W-Ledger
+ghosts-write_packed-W-Ledger g a = record { name = a.writes.name; parts = a.writes.parts }
+
+abbrev pub ghosts-write_packed-S-Scene : goal.ghosts-write_packed-S-Scene
+ghosts-write_packed-S-Scene g a = record { told = g.F.Folder.names a.folder.now; cat = a.translation.now.cat }
