@@ -157,6 +157,16 @@ ends_published {T = T} told f g (Err e) of cause = by e of cause
 pub ok_then : (r : Result (Unit {0}) Fault) (P : Type 0) → r ≡ Ok tt → OnOk r P → P
 ok_then r P is h = subst (λ (e : Result (Unit {0}) Fault). OnOk e P) is h
 
+-- what holds in any case, where a call succeeded
+pub ok_with : {T : Type 0} (r : Result T Fault) (P : Type 0) → P → OnOk r P
+ok_with (Ok v) P h = h
+ok_with (Err f) P h = tt
+
+-- what follows from what holds where a call succeeded
+pub ok_map : {T : Type 0} (r : Result T Fault) (P Q : Type 0) → (P → Q) → OnOk r P → OnOk r Q
+ok_map (Ok v) P Q by h = by h
+ok_map (Err f) P Q by h = tt
+
 -- before a later count of the folder's faults
 pub ends_later : {T : Type 0} (told : Option Files) (f g h o p : ℕ) (r : Result T Fault) → g ≤ h → MayEnd told f g o p r → MayEnd told f h o p r
 ends_later told f g h o p r later ends =
@@ -186,3 +196,8 @@ ends_by_view told f h view o r later risen ends = record {
   differs = ends.differs;
   never = ends.never;
 }
+
+-- a call that is refused for want of memory alone
+pub ends_by_memory : {T : Type 0} (told : Option Files) (f g : ℕ) (r : Result T Fault) → f ≤ g → IfErr r (λ x. x ≡ Memory) → MayEnd told f g 0 0 r
+ends_by_memory told f g (Ok v) later memory = ends_ok v told f g 0 0 later (omega arith)
+ends_by_memory {T = T} told f g (Err x) later memory = subst (λ (y : Fault). MayEnd {T = T} told f g 0 0 (Err y)) (sym memory) (ends_memory told f g 0 0 later (omega arith))

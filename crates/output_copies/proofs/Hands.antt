@@ -54,45 +54,6 @@ module _ {F File Draft : Type 0} (calls : Ghosts F File Draft) (told : Option Fi
     ]
   ]
 
-  -- all that have made their blocks may make others
-  pub all_ready : (first : ℕ) (workers : List (Worker F File Draft)) → AreDone calls told scene cat id p w form rows step first workers → All (IsWorker calls told scene cat id p w form rows step) workers
-  all_ready first workers done = λ i d less. (done i d less).worker
-
-  -- workers of which the first ones were written: each may make other lines, and the others are as they were
-  pub record AreWritten (at : ℕ) (were workers : List (Worker F File Draft)) : Type 0 where
-    pub count : length workers ≡ length were
-    pub ready : (i : ℕ) (d : Worker F File Draft) → i < at → i < length workers → IsWorker calls told scene cat id p w form rows step (get_or workers i d)
-    pub rest : (i : ℕ) (d : Worker F File Draft) → at ≤ i → get_or workers i d ≡ get_or were i d
-
-  -- one more was written
-  pub written_more : (at : ℕ) (were workers : List (Worker F File Draft)) (x : Worker F File Draft) → at < length workers → IsWorker calls told scene cat id p w form rows step x → AreWritten at were workers → AreWritten (at + 1) were (slice_set workers at x)
-  written_more at were workers x within worker before = record {
-    count = length-set workers at x ∙ before.count;
-    ready = λ i d early less. elim (cases_lt i at) [
-      | inl earlier ↦ subst (IsWorker calls told scene cat id p w form rows step) (sym (get_or-set_other workers at i x d (λ same. absurd (omega arith)))) (before.ready i d earlier (omega (arith, length-set workers at x)))
-      | inr here ↦ (let same : at ≡ i = omega arith in subst (λ n. IsWorker calls told scene cat id p w form rows step (get_or (slice_set workers at x) n d)) same (subst (IsWorker calls told scene cat id p w form rows step) (sym (get_or-set_same workers at x d within)) worker))
-    ];
-    rest = λ i d behind. get_or-set_other workers at i x d (λ same. absurd (omega arith)) ∙ before.rest i d (omega arith);
-  }
-
-  -- what holds of a worker whose blocks weren't written yet
-  pub done_kept : (first at top end : ℕ) (were workers : List (Worker F File Draft)) → AreDone calls told scene cat id p w form rows step first were → AreWritten at were workers → at < length workers → top ≡ top_of (cut_of w).blocks rows first at → end ≡ top_of (cut_of w).blocks rows first (at + 1) → (d : Worker F File Draft) → HasDone calls told scene cat id p w form rows step top end (get_or workers at d)
-  done_kept first at top end were workers done all within t e d =
-      subst (λ n. HasDone calls told scene cat id p w form rows step n end (get_or workers at d)) (sym t)
-      (subst (λ n. HasDone calls told scene cat id p w form rows step (top_of (cut_of w).blocks rows first at) n (get_or workers at d)) (sym e)
-      (subst (HasDone calls told scene cat id p w form rows step (top_of (cut_of w).blocks rows first at) (top_of (cut_of w).blocks rows first (at + 1))) (sym (all.rest at d (omega arith))) (done at d (omega (arith, all.count, within)))))
-
-  pub answer_kept : (before f at : ℕ) (were workers : List (Worker F File Draft)) → MayAnswer told before f were → AreWritten at were workers → at < length workers → (d : Worker F File Draft) → MayEnd told before f 0 0 (get_or workers at d).answer
-  answer_kept before f at were workers answers all within d =
-      subst (λ (x : Worker F File Draft). MayEnd told before f 0 0 x.answer) (sym (all.rest at d (omega arith))) (answers at d (omega (arith, all.count, within)))
-
-  -- all are ready again, where those that weren't written had made their blocks
-  pub written_ready : (first at : ℕ) (were workers : List (Worker F File Draft)) → AreDone calls told scene cat id p w form rows step first were → AreWritten at were workers → All (IsWorker calls told scene cat id p w form rows step) workers
-  written_ready first at were workers done all = λ i d less. elim (cases_lt i at) [
-    | inl early ↦ all.ready i d early less
-    | inr late ↦ subst (IsWorker calls told scene cat id p w form rows step) (sym (all.rest i d late)) (done i d (omega (arith, all.count, less))).worker
-  ]
-
 -- the answers of the workers whose views were ended, of n of them
 module _ {F File Draft : Type 0} (calls : Ghosts F File Draft) (told : Option Files) where
   pub record AreAnswers (n before now : ℕ) (were workers : List (Worker F File Draft)) : Type 0 where

@@ -6,6 +6,7 @@ pub mod Copied
 pub mod Ends
 pub mod Fronts
 pub mod Goes
+pub mod Handed
 pub mod Hands
 mod Kept
 mod Numbered

@@ -18,6 +18,7 @@ use Rattle.strip_copies.specs.declared.portions.Form.{Form}
 use Rattle.strip_copies.specs.declared.portions.Form.TheVariants.{Lines, Pieces, Records}
 use Rattle.strip_copies.specs.Copies.{IsRoomFor, IsTranslation, IsHeldIn}
 use Rattle.strip_copies.specs.Portions.{makes_columns, TakesForm}
+use Rattle.output_copies.specs.declared.handing.Made.{Made}
 use Rattle.output_copies.specs.declared.worker.Worker.{Worker}
 use Rattle.output_copies.specs.Copying.{MayEnd, TellsChange}
 use Rattle.output_copies.specs.Filled.{IsFilled}
@@ -89,6 +90,11 @@ pub record IsDesk (p : Planned) (w : Writer) (form : Form) (rows step : ℕ) (ro
   pub count : length records ≡ records_in form rows
   pub each : All (IsBlockFor w) records
 
+-- room for the packed blocks of a portion
+pub record HasRoom (p : Planned) (w : Writer) (rows : ℕ) (x : Made) : Type 0 where
+  pub long : length x.packed.items ≡ rows * length p.bands
+  pub each : All (λ bytes. length bytes ≡ block_len w) x.packed.items
+
 module _ (told : Option Files) (cat : List Dataset) (id : ℕ) (p : Planned) (w : Writer) where
   -- the bytes are those of a block of a band
   pub record IsPackedAt (band block : ℕ) (bytes : List ℕ) : Type 0 where
@@ -129,6 +135,23 @@ module _ (told : Option Files) (cat : List Dataset) (id : ℕ) (p : Planned) (w 
   abbrev pub AreBlocksWritten : Bool → TargetView → ℕ → Type 0
   AreBlocksWritten false t block = IsFilled told cat id p t block block 0
   AreBlocksWritten true t block = AreColumnsWritten t block
+
+module _ (told : Option Files) (cat : List Dataset) (id : ℕ) (p : Planned) (w : Writer) (rows : ℕ) where
+  -- the blocks from `top` up to `end` were made, or that was refused
+  pub record WasMade (top end : ℕ) (x : Made) : Type 0 where
+    pub room : HasRoom p w rows x
+    pub made : x.answer ≡ Ok tt → AreMade told cat id p w top x.packed.items end end 0
+    pub changed : IfErr x.answer (TellsChange cat)
+
+  -- the blocks from one on were made by some workers, each of them so many
+  abbrev pub WereMade : ℕ → List Made → Type 0
+  WereMade first made = (i : ℕ) (d : Made) → i < length made →
+      WasMade (top_of (cut_of w).blocks rows first i) (top_of (cut_of w).blocks rows first (i + 1)) (get_or made i d)
+
+-- what some workers answered may end a translation, between two counts of the folder's faults
+abbrev pub MayTell : Option Files → ℕ → ℕ → List Made → Type 0
+MayTell told folder folder_now made = (i : ℕ) (d : Made) → i < length made →
+    MayEnd told folder folder_now 0 0 (get_or made i d).answer
 
 module _ {F File Draft : Type 0} (calls : Ghosts F File Draft) (told : Option Files) (scene cat : List Dataset) (id : ℕ)
     (p : Planned) (w : Writer) (form : Form) (rows step : ℕ) where

@@ -16,8 +16,9 @@ ghost use Rattle.output_copies.specs.Filled.{IsFilled};
 ghost use Rattle.output_copies.specs.Packed.{IsTask};
 ghost use Rattle.output_copies.specs.Steps.{files_by, raster_of, unless_quiet};
 
-use crate::packed::copy_packed;
+use crate::handing::made_rooms;
 use crate::publishing::{lines_of, publish};
+use crate::rounds::{Crew, copy_packed, has_others};
 use crate::worker::{Task, dismiss, hire};
 use crate::writing::Writing;
 use error_lines::Fault;
@@ -29,7 +30,7 @@ use strip_copies::{Portions, Translation, portions_of};
 use write_back::{Packing, Target};
 
 // Copies all blocks of all bands by so many workers as are asked for, whose views are ended then.
-fn copy_hired<R: Threads + Sync, F: Folder, O: Sink, W: Ledger, S: Scene>(
+fn copy_hired<R: Threads + Sync, F: Folder, O: Sink, W: Ledger + Send, S: Scene>(
     rt: &R,
     task: &Task<S>,
     folder: &mut F,
@@ -61,9 +62,15 @@ fn copy_hired<R: Threads + Sync, F: Folder, O: Sink, W: Ledger, S: Scene>(
     ensures changed { IfErr result (TellsChange task.now.translation.now.cat) }
 {
     let count = writing.workers.get();
-    let mut workers = hire(task, folder, count, writing.blocks)?;
-    let hands = workers.as_mut_slice();
-    let copied = copy_packed(rt, task, folder, target, out, hands, writes);
+    let others = has_others(task, count as usize);
+    let Ok(made) = made_rooms(task, count, others) else {
+        return Err(Fault::Memory);
+    };
+    let workers = hire(task, folder, count, writing.blocks)?;
+    let mut crew = Crew { workers, made };
+    let copied = copy_packed(rt, task, folder, target, out, &mut crew, writes);
+    let Crew { workers, made } = crew;
+    drop(made);
     dismiss(folder, workers);
     copied
 }
@@ -90,7 +97,7 @@ pub fn shares_of(translation: &Translation, writing: &Writing) -> Option<Shares>
 }
 
 /// As `write_files`, by several workers: each packs lines, or columns, of its own, which are written in their order.
-pub fn write_packed<R: Threads + Sync, F: Folder, O: Sink, W: Ledger, S: Scene>(
+pub fn write_packed<R: Threads + Sync, F: Folder, O: Sink, W: Ledger + Send, S: Scene>(
     rt: &R,
     translation: &Translation,
     folder: &mut F,

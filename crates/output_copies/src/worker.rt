@@ -138,8 +138,8 @@ pub struct Task<'a, 'b, S: Scene> {
     pub quiet: bool,
 }
 
-// Room for the packed blocks of a portion.
-fn packed_room(alloc: Global, count: usize, len: usize) -> Result<Vec<PackedBlock>, AllocError>
+/// Room for so many packed blocks, each of so many bytes.
+pub fn packed_room(alloc: Global, count: usize, len: usize) -> Result<Vec<PackedBlock>, AllocError>
     ensures count { IfOk result (λ packed. length packed.items ≡ count) }
     ensures each { IfOk result (λ packed. All (λ bytes. length bytes ≡ len) packed.items) }
 {

@@ -290,9 +290,9 @@ fn some_workers_over_columns(rt: HostRuntime) {
     assert!(rt; are_large_tiles_again(&rt, rt.alloc()));
 }
 
-// Lines of which one of two workers makes thirty-three, and the other thirty-two. Of an output in which bands lie pixel
-// by pixel (BIP) a strip of sixty-four has two million samples: two workers read it beside each other, and the last
-// line is read while those before it are written.
+// Lines of which each of two workers makes seventeen at a time, so that all are made in two rounds, the second while the
+// first is written. Of an output in which bands lie pixel by pixel (BIP) a strip of sixty-four has two million samples:
+// two workers read it beside each other, and the last line is read while those before it are written.
 const LONG: &[u8] = b"NROWS 65\nNCOLS 32768\n";
 
 const LONG_TIMES: usize = 8_320;
@@ -323,9 +323,16 @@ BANDGAPBYTES   0
 PIXELTYPE      UNSIGNEDINT
 ";
 
-// Each line is written, and a worker reads thirty-two or more of them. The size is put, and then that all is done;
-// nothing is taken.
+// Each line is written, and before the first one is, a worker reads seventeen or more. The size is put, and then that
+// the first round is written and that all is; nothing is taken.
 static LONG_TURNS: [Turn; 3] = [
+    (0, Failer::Folder, (82, 256)),
+    (0, Failer::Output(3), (2, 64)),
+    (0, Failer::Input, (0, 1)),
+];
+
+// Each line is written, and a worker reads thirty-two or more of them.
+static WOVEN_TURNS: [Turn; 3] = [
     (0, Failer::Folder, (97, 256)),
     (0, Failer::Output(3), (2, 64)),
     (0, Failer::Input, (0, 1)),
@@ -377,11 +384,11 @@ fn first_unmet_woven<R: Threads + Sync + Abort>(rt: &R, alloc: Global) -> Option
         told: "",
         outputs: &outputs,
     }];
-    first_unmet(rt, alloc, &files, &works, &LONG_TURNS)
+    first_unmet(rt, alloc, &files, &works, &WOVEN_TURNS)
 }
 
-// Each call of the folder fails in turn while two workers make long lines, and each of the output. What was printed by
-// then is the first part of what a whole run prints.
+// Each call of the folder fails in turn while two workers make long lines, and others are written, and each of the
+// output. What was printed by then is the first part of what a whole run prints.
 #[test]
 fn each_failing_call_of_two_workers(rt: HostRuntime) {
     none_wrong(&rt, first_unmet_long(&rt, rt.alloc()));

@@ -70,8 +70,8 @@ one = refl
 abbrev cell_of : ℕ → Planned
 cell_of columns = record { driver = Dted 2; layout = Bil; bands = record { source = 0; kind = Int16; nodata = None } ∷ []; size = record { w = columns; h = 3601 }; x = pos 0; y = pos 0; window = record { w = columns; h = 3601 }; geo = None }
 
--- four workers make 6,000 lines of 4,800 columns in four turns of 375 each, and read 13 at once
-turns : portions_in Lines 4 [] (raw_of 4800) ≡ Some (record { form = Lines; rows = 375; step = 13 })
+-- four workers make 6,000 lines of 4,800 columns in 14 turns of 108 each, and read 13 at once
+turns : portions_in Lines 4 [] (raw_of 4800) ≡ Some (record { form = Lines; rows = 108; step = 13 })
 turns = refl
 
 -- raw data of so many bands, of 20 columns and 100,000 lines
@@ -93,11 +93,11 @@ pieces = refl
 records : portions_in Records 4 [] (cell_of 3601) ≡ Some (record { form = Records; rows = 901; step = 64 })
 records = refl
 
--- a line of more than 2,097,152 samples is too long for four workers
-longest : portions_in Lines 4 [] (raw_of 2097152) ≡ Some (record { form = Lines; rows = 1; step = 1 })
+-- a line of more than 524,288 samples is too long for four workers
+longest : portions_in Lines 4 [] (raw_of 524288) ≡ Some (record { form = Lines; rows = 1; step = 1 })
 longest = refl
 
-too_long : portions_in Lines 4 [] (raw_of 2097153) ≡ None
+too_long : portions_in Lines 4 [] (raw_of 524289) ≡ None
 too_long = refl
 
 -- what is read and written settles the form, and whether samples are copied

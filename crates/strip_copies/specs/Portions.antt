@@ -21,7 +21,7 @@ fewest_packed = 1000000
 
 -- The most samples of lines that all workers pack before they are written.
 abbrev pub most_round : ℕ
-most_round = 8388608
+most_round = 2097152
 
 -- The most samples of an output that all workers pack before they are written: so many of a cell, or made of one.
 abbrev pub most_packed : ℕ

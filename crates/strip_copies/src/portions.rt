@@ -39,8 +39,8 @@ pub struct Portions {
 // take as long as a thread may be late by a tick of the system's clock, which is 4 ms.
 const FEWEST_PACKED: u64 = 1_000_000;
 
-// The most samples of lines that all workers pack before they are written.
-const MOST_ROUND: u32 = 8_388_608;
+// The most samples of lines that all workers pack before they are written: others are packed meanwhile.
+const MOST_ROUND: u32 = 2_097_152;
 
 // The most samples of a cell, or of lines that are copied from one.
 const MOST_PACKED: u32 = 16_777_216;
@@ -300,7 +300,7 @@ fn portions_by(translation: &Translation, workers: u32) -> Option<Portions>
 /// 1,000,000 samples come to each, where a line or a column alone is more than each may pack at a time, over a mosaic
 /// of cells, and where a cell is read or written, and samples aren't copied or both are cells.
 ///
-/// All workers together make 8,388,608 samples of lines at most at a time, and 16,777,216 of what is copied from a cell
+/// All workers together make 2,097,152 samples of lines at most at a time, and 16,777,216 of what is copied from a cell
 /// or into one; and each of them makes 4,096 lines of a band, or columns, at most.
 pub fn portions_of(translation: &Translation, workers: WorkerCount) -> Option<Portions>
     requires translation { IsTranslation translation.now.cat translation.now.id translation.now.plan }

@@ -6,7 +6,8 @@ use Rattle.output_copies.specs.Copying.{MayEnd, TellsChange}
 use Rattle.output_copies.specs.Packed.{top_of, AreBlocksWritten}
 use Rattle.output_copies.proofs.Changes.{handed_on}
 use Rattle.output_copies.proofs.Ends.{ends_later, ends_ok, ends_so, err_is}
-use Rattle.output_copies.proofs.Hands.{answer_kept, done_kept, top_first, written_more, written_ready}
+use Rattle.output_copies.proofs.Handed.{answer_kept, made_kept, written_more, written_ready}
+use Rattle.output_copies.proofs.Hands.{top_first}
 use Rattle.output_copies.proofs.packed.write_all.Goals as goal
 
 pub loop-at-init : goal.loop-at-init
@@ -32,15 +33,15 @@ write_made-requires-clause-told g c κs within = c.requires.told ∙ sym c.loop-
 pub write_made-requires-clause-end : goal.write_made-requires-clause-end
 write_made-requires-clause-end g c κs within = omega (arith, c.portion_of-portion.ensures.within, c.extent_of-extent.ensures.extent)
 
-pub write_made-requires-clause-done : goal.write_made-requires-clause-done
-write_made-requires-clause-done g c κs within =
+pub write_made-requires-clause-made : goal.write_made-requires-clause-made
+write_made-requires-clause-made g c κs within =
     let t = c.args.task.now.translation.now in
     let w = c.args.task.now.packing in
     let rows = c.args.task.now.rows in
     let same = c.extent_of-extent.ensures.extent in
     let top = top_is c.extent_of-extent.result (cut_of w).blocks rows c.args.first c.loop-at.at c.portion_of-portion.result.top c.portion_of-portion.ensures.top same in
     let end = top_is c.extent_of-extent.result (cut_of w).blocks rows c.args.first (c.loop-at.at + 1) c.portion_of-portion.result.end c.portion_of-portion.ensures.end same in
-    done_kept g.F.Folder g.S.Scene.told g.S.Scene.cat t.cat t.id t.plan w c.args.task.now.form rows c.args.task.now.step c.args.first c.loop-at.at c.portion_of-portion.result.top c.portion_of-portion.result.end c.args.workers.now c.loop-at.workers c.requires.done c.loop-at.invariant.written (omega (arith, c.loop-at.invariant.written.count, c.loop-at-test.true)) top end _
+    made_kept g.S.Scene.told t.cat t.id t.plan w rows c.args.first c.loop-at.at c.portion_of-portion.result.top c.portion_of-portion.result.end c.args.made.now c.loop-at.made c.requires.made c.loop-at.invariant.written (omega (arith, c.loop-at.invariant.written.count, c.loop-at-test.true)) top end _
 
 pub write_made-requires-clause-written : goal.write_made-requires-clause-written
 write_made-requires-clause-written g c κs within =
@@ -61,21 +62,21 @@ returns-in_err-write_made-clause-ends g c = λ before early answers.
     (subst (λ (o : Option Files). MayEnd {T = Unit {0}} o before (g.F.Folder.faults c.write_made.new.folder) 0 0 (Err x)) so_far.names
     (c.in_err-write_made.ensures.ends before
     (ends_later g.S.Scene.told before (g.F.Folder.faults c.args.folder.now) (g.F.Folder.faults c.loop-at.folder) 0 0 _ so_far.later
-    (answer_kept g.F.Folder g.S.Scene.told g.S.Scene.cat t.cat t.id t.plan c.args.task.now.packing c.args.task.now.form c.args.task.now.rows c.args.task.now.step before (g.F.Folder.faults c.args.folder.now) c.loop-at.at c.args.workers.now c.loop-at.workers answers so_far.written (omega (arith, so_far.written.count, c.loop-at-test.true)) _))))
+    (answer_kept g.S.Scene.told t.cat t.id t.plan c.args.task.now.packing c.args.task.now.rows before (g.F.Folder.faults c.args.folder.now) c.loop-at.at c.args.made.now c.loop-at.made answers so_far.written (omega (arith, so_far.written.count, c.loop-at-test.true)) _))))
 
 pub returns-clause-ends : goal.returns-clause-ends
 returns-clause-ends g c = λ before early answers. ends_ok tt (g.F.Folder.names c.args.folder.now) before (g.F.Folder.faults c.loop-at.folder) 0 0 (omega (arith, early, c.loop-at.invariant.later)) (omega arith)
 
-pub returns-clause-workers : goal.returns-clause-workers
-returns-clause-workers g c =
+pub returns-clause-rooms : goal.returns-clause-rooms
+returns-clause-rooms g c =
     let t = c.args.task.now.translation.now in
-    written_ready g.F.Folder g.S.Scene.told g.S.Scene.cat t.cat t.id t.plan c.args.task.now.packing c.args.task.now.form c.args.task.now.rows c.args.task.now.step c.args.first c.loop-at.at c.args.workers.now c.loop-at.workers c.requires.done c.loop-at.invariant.written
+    written_ready g.S.Scene.told t.cat t.id t.plan c.args.task.now.packing c.args.task.now.rows c.args.first c.loop-at.at c.args.made.now c.loop-at.made c.requires.made c.loop-at.invariant.written
 
-pub returns-in_err-write_made-clause-workers : goal.returns-in_err-write_made-clause-workers
-returns-in_err-write_made-clause-workers g c =
+pub returns-in_err-write_made-clause-rooms : goal.returns-in_err-write_made-clause-rooms
+returns-in_err-write_made-clause-rooms g c =
     let t = c.args.task.now.translation.now in
-    written_ready g.F.Folder g.S.Scene.told g.S.Scene.cat t.cat t.id t.plan c.args.task.now.packing c.args.task.now.form c.args.task.now.rows c.args.task.now.step c.args.first (c.loop-at.at + 1) c.args.workers.now (slice_set c.loop-at.workers c.loop-at.at c.write_made.new.worker) c.requires.done
-    (written_more g.F.Folder g.S.Scene.told g.S.Scene.cat t.cat t.id t.plan c.args.task.now.packing c.args.task.now.form c.args.task.now.rows c.args.task.now.step c.loop-at.at c.args.workers.now c.loop-at.workers c.write_made.new.worker (omega (arith, c.loop-at.invariant.written.count, c.loop-at-test.true)) c.write_made.ensures.worker c.loop-at.invariant.written)
+    written_ready g.S.Scene.told t.cat t.id t.plan c.args.task.now.packing c.args.task.now.rows c.args.first (c.loop-at.at + 1) c.args.made.now (slice_set c.loop-at.made c.loop-at.at c.write_made.new.made) c.requires.made
+    (written_more g.S.Scene.told t.cat t.id t.plan c.args.task.now.packing c.args.task.now.rows c.loop-at.at c.args.made.now c.loop-at.made c.write_made.new.made (omega (arith, c.loop-at.invariant.written.count, c.loop-at-test.true)) c.write_made.ensures.room c.loop-at.invariant.written)
 
 pub loop-at-preserved : goal.loop-at-preserved
 loop-at-preserved g c =
@@ -88,7 +89,7 @@ loop-at-preserved g c =
           (subst (λ (n : ℕ). AreBlocksWritten (g.F.Folder.names c.write_made.new.folder) t.cat t.id t.plan w (cut_of w).by_columns c.write_made.new.target n)
           (top_is c.extent_of-extent.result (cut_of w).blocks c.args.task.now.rows c.args.first (c.loop-at.at + 1) c.portion_of-portion.result.end c.portion_of-portion.ensures.end c.extent_of-extent.ensures.extent) o.written);
       empty = o.empty;
-      written = written_more g.F.Folder g.S.Scene.told g.S.Scene.cat t.cat t.id t.plan c.args.task.now.packing c.args.task.now.form c.args.task.now.rows c.args.task.now.step c.loop-at.at c.args.workers.now c.loop-at.workers c.write_made.new.worker (omega (arith, c.loop-at.invariant.written.count, c.loop-at-test.true)) o.worker so_far.written;
+      written = written_more g.S.Scene.told t.cat t.id t.plan c.args.task.now.packing c.args.task.now.rows c.loop-at.at c.args.made.now c.loop-at.made c.write_made.new.made (omega (arith, c.loop-at.invariant.written.count, c.loop-at-test.true)) o.room so_far.written;
       name = o.name ∙ so_far.name;
       names = o.names ∙ so_far.names;
       later = omega (arith, so_far.later, o.later);
@@ -100,8 +101,8 @@ returns-clause-written g c =
     let w = c.args.task.now.packing in
     let rows = c.args.task.now.rows in
     let so_far = c.loop-at.invariant in
-    let all : c.loop-at.at ≡ length c.args.workers.now = omega (arith, so_far.written.count, c.loop-at-test.false, c.loop-at.auto.at-end) in
-    subst (λ (o : Option Files). AreBlocksWritten o t.cat t.id t.plan w (cut_of w).by_columns c.loop-at.target (top_of (cut_of w).blocks rows c.args.first (length c.args.workers.now))) (sym so_far.names)
+    let all : c.loop-at.at ≡ length c.args.made.now = omega (arith, so_far.written.count, c.loop-at-test.false, c.loop-at.auto.at-end) in
+    subst (λ (o : Option Files). AreBlocksWritten o t.cat t.id t.plan w (cut_of w).by_columns c.loop-at.target (top_of (cut_of w).blocks rows c.args.first (length c.args.made.now))) (sym so_far.names)
     (subst (λ (n : ℕ). AreBlocksWritten (g.F.Folder.names c.args.folder.now) t.cat t.id t.plan w (cut_of w).by_columns c.loop-at.target (top_of (cut_of w).blocks rows c.args.first n)) all so_far.blocks)
 
 pub returns-in_err-write_made-clause-changed : goal.returns-in_err-write_made-clause-changed

@@ -15,14 +15,14 @@ write_portion-requires-clause-made g c κs within =
     let t = c.args.task.now.translation.now in
     let ok : c.replace-answer.result ≡ Ok tt = search rules in
     subst (λ (l : List (List ℕ)). AreMade (g.F.Folder.names c.args.folder.now) t.cat t.id t.plan c.args.task.now.packing c.args.portion.top l c.args.portion.end c.args.portion.end 0) (sym c.as_slice-packed.ensures.value)
-    (subst (λ (o : Option Files). AreMade o t.cat t.id t.plan c.args.task.now.packing c.args.portion.top c.args.worker.now.desk.packed.items c.args.portion.end c.args.portion.end 0) c.requires.told
-    (c.requires.done.made (sym c.replace-answer.ensures.value ∙ ok)))
+    (subst (λ (o : Option Files). AreMade o t.cat t.id t.plan c.args.task.now.packing c.args.portion.top c.args.made.now.packed.items c.args.portion.end c.args.portion.end 0) c.requires.told
+    (c.requires.made.made (sym c.replace-answer.ensures.value ∙ ok)))
 
 pub write_portion-requires-clause-long : goal.write_portion-requires-clause-long
-write_portion-requires-clause-long g c κs within = ap length c.as_slice-packed.ensures.value ∙ c.requires.done.worker.desk.packs.long
+write_portion-requires-clause-long g c κs within = ap length c.as_slice-packed.ensures.value ∙ c.requires.made.room.long
 
 pub write_portion-requires-clause-each : goal.write_portion-requires-clause-each
-write_portion-requires-clause-each g c κs within = subst (All (λ (b : List ℕ). length b ≡ block_len c.args.task.now.packing)) (sym c.as_slice-packed.ensures.value) c.requires.done.worker.desk.packs.each
+write_portion-requires-clause-each g c κs within = subst (All (λ (b : List ℕ). length b ≡ block_len c.args.task.now.packing)) (sym c.as_slice-packed.ensures.value) c.requires.made.room.each
 
 pub returns-in_err-answer-clause-ends : goal.returns-in_err-answer-clause-ends
 returns-in_err-answer-clause-ends g c = λ before ends.
@@ -36,7 +36,7 @@ pub returns-in_err-answer-clause-changed : goal.returns-in_err-answer-clause-cha
 returns-in_err-answer-clause-changed g c =
     let cat = c.args.task.now.translation.now.cat in
     let x = c.in_err-answer.field-0.0 in
-    handed_on (TellsChange cat) x c.from_residual.result c.from_residual.ensures (subst (λ (r : Result (Unit {0}) Fault). IfErr r (TellsChange cat)) (sym c.replace-answer.ensures.value ∙ c.in_err-answer.was {u = tt}) c.requires.done.changed)
+    handed_on (TellsChange cat) x c.from_residual.result c.from_residual.ensures (subst (λ (r : Result (Unit {0}) Fault). IfErr r (TellsChange cat)) (sym c.replace-answer.ensures.value ∙ c.in_err-answer.was {u = tt}) c.requires.made.changed)
 
 pub returns-clause-ends : goal.returns-clause-ends
 returns-clause-ends g c = λ before ends.
