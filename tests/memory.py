@@ -1,5 +1,5 @@
 #!/usr/bin/env python3
-"""Runs the built program with each of its allocations refused in turn, outside the gate: tests/memory.py PROGRAM
+"""Runs the built program with each of its allocations refused in turn, outside the gate: tests/memory.py PROGRAM [--all-ends]
 
 A small library, built with the system's C compiler, stands between the program and the allocator and refuses one call
 by its number. Each job is run with the first call refused, then with the second, and so on until a run ends in which
@@ -9,8 +9,9 @@ the folder then. Each line of the result names a job, how many of its allocation
 the last line counts what failed, and the status is 0 where nothing did.
 
 The jobs are those of the tests over calls and files that fail, some of them over old files under the names of the
-outputs, and documents that end at chosen places, where those tests try all. Not tried is what is no run: that a lane of
-one block reads again behind a refusal (crates/reading_tests, `a_lane_of_one_block_goes_on`, where a read is refused)."""
+outputs. A cell and a document end at chosen places here, and at each of their bytes, as in those tests, with
+`--all-ends`. Not tried is what is no run: that a lane of one block reads again behind a refusal (crates/reading_tests,
+`a_lane_of_one_block_goes_on`, where a read is refused)."""
 import os
 import shutil
 import subprocess
@@ -136,8 +137,9 @@ DOCUMENT = f"""<VRTDataset rasterXSize="2401" rasterYSize="1201">
 {tile("N00E000.hgt", 0)}{tile("N00E001.hgt", 1200)}  </VRTRasterBand>
 </VRTDataset>
 """.encode()
+ALL_ENDS = "--all-ends" in sys.argv[2:]
 # where the cell ends: in and behind its labels, and at each byte of its record
-CELL_ENDS = (0, 1, 79, 80, 81, 728, 729, *range(3428, 3448))
+CELL_ENDS = range(len(CELL)) if ALL_ENDS else (0, 1, 79, 80, 81, 728, 729, *range(3428, 3448))
 # behind the first of each of these the document ends
 DOCUMENT_ENDS = (
     b"",
@@ -156,7 +158,8 @@ DOCUMENT_ENDS = (
     b"</VRTDataset",
 )
 CUT_CELLS = {f"cut{at}.dt0": CELL[:at] for at in CELL_ENDS}
-CUT_DOCUMENTS = {f"cut{at}.vrt": DOCUMENT[: DOCUMENT.index(it) + len(it)] for at, it in enumerate(DOCUMENT_ENDS)}
+SHORTER = range(DOCUMENT.rindex(b">")) if ALL_ENDS else [DOCUMENT.index(it) + len(it) for it in DOCUMENT_ENDS]
+CUT_DOCUMENTS = {f"cut{length}.vrt": DOCUMENT[:length] for length in SHORTER}
 # these stand in each folder
 FILES = {
     "a.bil": bytes(range(1, 13)),
@@ -456,8 +459,8 @@ def try_job(room, program, words, fed, outputs):
 
 
 def main():
-    if len(sys.argv) != 2 or not os.access(sys.argv[1], os.X_OK):
-        print("tests/memory.py PROGRAM: the built program", file=sys.stderr)
+    if sys.argv[2:] not in ([], ["--all-ends"]) or not os.access("".join(sys.argv[1:2]), os.X_OK):
+        print("tests/memory.py PROGRAM [--all-ends]: the built program", file=sys.stderr)
         return 2
     program, failed = os.path.realpath(sys.argv[1]), 0
     with tempfile.TemporaryDirectory() as room:

@@ -1,7 +1,8 @@
 -- What is known of a dataset before its pixels are read.
-use Rattle.std.specs.Prelude.{ℕ, ◌≡◌, ◌<◌, ◌≤◌, List, length, slice_get, All, Option, IfSome, true}
+use Rattle.std.specs.Prelude.{ℕ, ◌≡◌, ◌<◌, ◌≤◌, List, length, slice_get, All, Option, option_map, IfSome, true}
 use Rattle.geotransform.specs.Geo.{Transform, IsRaster}
 use Rattle.geotransform.specs.Types.{is_in}
+use Rattle.geotransform.specs.declared.types.PixelType.{PixelType}
 use Rattle.geotransform.specs.declared.types.Size.{Size}
 use Rattle.catalog.specs.declared.kind.BandHead.{BandHead}
 use Rattle.catalog.specs.declared.kind.Kind.{Kind}
@@ -37,6 +38,10 @@ band_count head = length head.bands
 -- a band of a dataset by its number, counted from 0
 abbrev pub band_at : DatasetHead → ℕ → Option BandHead
 band_at head band = slice_get head.bands band
+
+-- the type of its samples
+abbrev pub type_at : DatasetHead → ℕ → Option PixelType
+type_at head band = option_map (λ b. b.kind) (band_at head band)
 
 -- the size of the blocks of a kind: a line of pixels, a column of a cell, or a square of a mosaic
 abbrev pub block_of : Kind → Size → Size

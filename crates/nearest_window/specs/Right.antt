@@ -1,5 +1,5 @@
 -- When a lane is right for a catalog and a folder.
-use Rattle.std.specs.Prelude.{◌≡◌, ℕ, ℤ, true, List, All, Option, Some, IfSome, Contains, Result, Ok, Err, option_map}
+use Rattle.std.specs.Prelude.{◌≡◌, ℕ, ℤ, true, List, All, Option, Some, IfSome, Contains, Result, Ok, Err}
 use Rattle.std.specs.Prelude.{slice_get}
 use Rattle.geotransform.specs.Types.{is_in}
 use Rattle.geotransform.specs.declared.types.PixelType.{PixelType}
@@ -21,7 +21,7 @@ use Rattle.block_cache.specs.declared.pool.Entry.{Entry}
 use Rattle.block_cache.specs.Entries.{PoolView, IsPool}
 use Rattle.nearest_window.specs.declared.indexes.Kept.{Kept}
 use Rattle.nearest_window.specs.Lanes.{LaneView}
-use Rattle.catalog.specs.Dataset.{band_at}
+use Rattle.catalog.specs.Dataset.{type_at}
 
 -- each held block is that of its key
 abbrev pub AreBlocks : Option Files → List Dataset → List (BlockKey × Entry) → Type 0
@@ -33,7 +33,7 @@ pub record IsRecalled (told : Option Files) (cat : List Dataset) (key : PixelKey
   pub dataset : Dataset
   pub at : slice_get cat key.dataset ≡ Some dataset
   pub kind : PixelType
-  pub kind_is : option_map (λ band. band.kind) (band_at dataset.head key.band) ≡ Some kind
+  pub kind_is : type_at dataset.head key.band ≡ Some kind
   pub range : is_in kind sample ≡ true
   pub content : (m : Files) → told ≡ Some m → sample ≡ pixel_of m cat key.dataset key.band key.x key.y
 

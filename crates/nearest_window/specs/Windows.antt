@@ -1,8 +1,8 @@
 -- Windows of pixels, and the types of their samples.
-use Rattle.std.specs.Prelude.{◌≡◌, ◌+◌, ◌<◌, ◌≤◌, List, Some, slice_get, ℕ, ℤ, true, option_map}
+use Rattle.std.specs.Prelude.{◌≡◌, ◌+◌, ◌<◌, ◌≤◌, List, Some, slice_get, ℕ, ℤ, true}
 use Rattle.geotransform.specs.Types.{is_in}
 use Rattle.geotransform.specs.declared.types.PixelType.{PixelType}
-use Rattle.catalog.specs.Dataset.{band_count, band_at}
+use Rattle.catalog.specs.Dataset.{band_count, type_at}
 use Rattle.catalog.specs.Drivers.{Dataset}
 use Rattle.nearest_window.specs.declared.window.Window.{Window}
 
@@ -17,4 +17,4 @@ pub record IsWindow (cat : List Dataset) (window : Window) : Type 0 where
 -- the sample is in the type of a band of a dataset
 abbrev pub IsInBand : List Dataset → ℕ → ℕ → ℤ → Type 0
 IsInBand cat id band sample = (d : Dataset) (kind : PixelType) → slice_get cat id ≡ Some d →
-    option_map (λ band. band.kind) (band_at d.head band) ≡ Some kind → is_in kind sample ≡ true
+    type_at d.head band ≡ Some kind → is_in kind sample ≡ true

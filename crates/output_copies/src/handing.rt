@@ -1,5 +1,5 @@
 // What workers made, handed over to the thread that writes it.
-ghost use Rattle.std.specs.Prelude.{◌≡◌, ◌*◌, ℕ, IfOk, length, true};
+ghost use Rattle.std.specs.Prelude.{◌≡◌, ◌*◌, ℕ, IfOk, false, length, true};
 ghost use Rattle.std.specs.List.{All};
 ghost use Rattle.output_copies.specs.Packed.{AreDone, HasDone, HasRoom, IsTask, IsWorker, MayAnswer, MayTell, WasMade};
 ghost use Rattle.output_copies.specs.Packed.{WereMade};
@@ -22,6 +22,7 @@ pub struct Made {
 // How many packed blocks there is room for: those of a portion, where other portions are made meanwhile.
 fn block_count<S: Scene>(task: &Task<S>, others: bool) -> usize
     ensures count { others ≡ true → result ≡ task.now.rows * length task.now.translation.now.plan.bands }
+    ensures none { others ≡ false → result ≡ 0 }
 {
     if others {
         area(task.rows, task.translation.plan.count())

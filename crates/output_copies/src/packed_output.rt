@@ -13,6 +13,7 @@ ghost use Rattle.error_lines.specs.Progress.{progress};
 ghost use Rattle.error_lines.specs.Steps.{all_done, publishes, Goes};
 ghost use Rattle.output_copies.specs.Copying.{spoken, IsChanged, MayEnd, Puts, TellsChange};
 ghost use Rattle.output_copies.specs.Filled.{IsFilled};
+ghost use Rattle.output_copies.specs.Makers.{makers_of, one_fewer};
 ghost use Rattle.output_copies.specs.Packed.{IsTask};
 ghost use Rattle.output_copies.specs.Steps.{files_by, raster_of, unless_quiet};
 
@@ -22,14 +23,15 @@ use crate::rounds::{Crew, copy_packed, has_others};
 use crate::worker::{Task, dismiss, hire};
 use crate::writing::Writing;
 use error_lines::Fault;
+use lane_teams::WorkerCount;
 use outside::{Counter, Folder, Sink};
 use shared_lines::{Lines, Scene};
 use std::sync::ledger::{Blank, Ledger};
 use std::thread::Threads;
-use strip_copies::{Portions, Translation, portions_of};
+use strip_copies::{Form, Portions, Translation, portions_of};
 use write_back::{Packing, Target};
 
-// Copies all blocks of all bands by so many workers as are asked for, whose views are ended then.
+// Copies all blocks of all bands by so many workers as the task has, whose views are ended then.
 fn copy_hired<R: Threads + Sync, F: Folder, O: Sink, W: Ledger + Send, S: Scene>(
     rt: &R,
     task: &Task<S>,
@@ -61,7 +63,7 @@ fn copy_hired<R: Threads + Sync, F: Folder, O: Sink, W: Ledger + Send, S: Scene>
         (O.faults out.new) result }
     ensures changed { IfErr result (TellsChange task.now.translation.now.cat) }
 {
-    let count = writing.workers.get();
+    let count = task.workers.get();
     let others = has_others(task, count as usize);
     let Ok(made) = made_rooms(task, count, others) else {
         return Err(Fault::Memory);
@@ -75,15 +77,42 @@ fn copy_hired<R: Threads + Sync, F: Folder, O: Sink, W: Ledger + Send, S: Scene>
     copied
 }
 
-/// How blocks are packed, and how many of them each worker makes and reads at a time.
+/// How blocks are packed, how many workers make them, and how many each makes and reads at a time.
 #[derive(Drop)]
 pub struct Shares {
     pub packing: Packing,
+    pub makers: WorkerCount,
     pub portions: Portions,
 }
 
+// One worker fewer, where more than one remains.
+fn one_fewer(workers: WorkerCount) -> WorkerCount
+    ensures fewer { result ≡ one_fewer workers }
+{
+    let count = workers.get();
+    if count <= 2 {
+        return workers;
+    }
+    match WorkerCount::new(count - 1) {
+        Some(fewer) => fewer,
+        None => workers,
+    }
+}
+
+// How many workers make a form's blocks, where so many are asked for: lines are made about as fast as they are written,
+// and one more thread writes meanwhile, so that one fewer makes them.
+fn makers_of(form: Form, workers: WorkerCount) -> WorkerCount
+    ensures makers { result ≡ makers_of form workers }
+{
+    match form {
+        Form::Lines => one_fewer(workers),
+        Form::Pieces | Form::Records => workers,
+    }
+}
+
 /// How several workers share the output of a translation; None where one of them copies it, as where the samples of
-/// several bands lie pixel by pixel.
+/// several bands lie pixel by pixel. Of lines one worker fewer than are asked for makes them, where more than one
+/// remains, since one more thread writes them.
 pub fn shares_of(translation: &Translation, writing: &Writing) -> Option<Shares>
     requires translation { IsTranslation translation.now.cat translation.now.id translation.now.plan }
     ensures task { IfSome result (λ s. IsTask translation.now.cat translation.now.id translation.now.plan s.packing
@@ -92,8 +121,14 @@ pub fn shares_of(translation: &Translation, writing: &Writing) -> Option<Shares>
     // This call is made for the proof: it says what every plan keeps.
     translation.plan.rules();
     let packing = Packing::of(&translation.plan)?;
-    let portions = portions_of(translation, writing.workers)?;
-    Some(Shares { packing, portions })
+    let all = portions_of(translation, writing.workers)?;
+    let makers = makers_of(all.form, writing.workers);
+    let portions = portions_of(translation, makers)?;
+    Some(Shares {
+        packing,
+        makers,
+        portions,
+    })
 }
 
 /// As `write_files`, by several workers: each packs lines, or columns, of its own, which are written in their order.
@@ -132,14 +167,18 @@ pub fn write_packed<R: Threads + Sync, F: Folder, O: Sink, W: Ledger + Send, S: 
 {
     let made: Option<Lines<S>> = lines_of(translation, folder, writing);
     let shared = made.as_ref();
-    let Shares { packing, portions } = shares;
+    let Shares {
+        packing,
+        makers,
+        portions,
+    } = shares;
     let task = Task {
         translation,
         packing,
         form: portions.form,
         rows: portions.rows,
         step: portions.step,
-        workers: writing.workers,
+        workers: makers,
         shared,
         quiet: writing.quiet,
     };

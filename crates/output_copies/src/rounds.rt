@@ -1,6 +1,6 @@
-// Rounds of workers that make blocks of an output beside each other, while one thread writes what they made in the round
-// before, block by block in their order.
-ghost use Rattle.std.specs.Prelude.{◌≡◌, ◌<◌, ◌≤◌, ◌+◌, ℕ, [], IfErr, OnErr, OnOk, length, true};
+// Rounds of workers that make blocks of an output beside each other, while one thread writes what they made in the
+// round before, block by block in their order.
+ghost use Rattle.std.specs.Prelude.{◌≡◌, ◌<◌, ◌≤◌, ◌+◌, ℕ, [], IfErr, OnErr, OnOk, false, length, true};
 ghost use Rattle.std.specs.List.{All};
 ghost use Rattle.std.specs.Thread.{IsSend, IsSync};
 ghost use Rattle.outside.specs.Streams.{Gets, GetsPart};
@@ -27,17 +27,12 @@ use std::sync::ledger::Ledger;
 use std::thread::Threads;
 use write_back::Target;
 
-// The block from which on blocks are written, and the one from which on others are made meanwhile.
+// A round: blocks from `first` on, which were made in the round before, are written, and meanwhile those from `next` on
+// are made.
 #[derive(Clone, Copy)]
-struct Both {
+struct Round {
     first: u32,
     next: u32,
-}
-
-// Who makes the next blocks.
-#[derive(Drop)]
-struct Making<'a, F: Folder> {
-    workers: &'a mut Vec<Worker<F>>,
 }
 
 // Who writes the last ones, and what was answered.
@@ -50,22 +45,20 @@ struct Writing<'a, F: Folder, W: Ledger> {
     answer: &'a mut Result<(), Fault>,
 }
 
-// Who makes blocks does so, from one on.
+// The workers make blocks, from one on.
 fn make_next<R: Threads + Sync, F: Folder, S: Scene>(
     rt: &R,
     task: &Task<S>,
     next: u32,
-    making: &mut Making<F>,
+    workers: &mut Vec<Worker<F>>,
 )
     requires may { MayMake F.Folder S.told S.cat task.now.translation.now.cat task.now.translation.now.id
-        task.now.translation.now.plan task.now.packing task.now.form task.now.rows task.now.step
-        making.old.workers.now.items }
-    ensures workers { making.new.workers.ghost_name ≡ making.old.workers.ghost_name }
+        task.now.translation.now.plan task.now.packing task.now.form task.now.rows task.now.step workers.old.items }
     ensures done { WereDone F.Folder S.told S.cat task.now.translation.now.cat task.now.translation.now.id
         task.now.translation.now.plan task.now.packing task.now.form task.now.rows task.now.step next
-        (length making.old.workers.now.items) making.new.workers.now.items }
+        (length workers.old.items) workers.new.items }
 {
-    let workers = making.workers.as_mut_slice();
+    let workers = workers.as_mut_slice();
     make_all::<R, F, S>(rt, task, next, workers);
 }
 
@@ -96,34 +89,33 @@ fn write_last<F: Folder, W: Ledger, S: Scene>(
 }
 
 // Both do, beside each other where a thread can be started.
-fn do_both<'a, 'b, R: Threads + Sync, F: Folder, W: Ledger + Send, S: Scene>(
+fn do_both<'a, R: Threads + Sync, F: Folder, W: Ledger + Send, S: Scene>(
     rt: &R,
     task: &Task<S>,
-    both: Both,
+    round: Round,
     writing: &mut Writing<'a, F, W>,
-    making: &mut Making<'b, F>,
+    workers: &mut Vec<Worker<F>>,
 )
     requires may_make { MayMake F.Folder S.told S.cat task.now.translation.now.cat task.now.translation.now.id
         task.now.translation.now.plan task.now.packing task.now.form task.now.rows task.now.step
-        making.old.workers.now.items }
+        workers.old.items }
     requires may_put { MayPut F.Folder S.told task.now.translation.now.cat task.now.translation.now.id
-        task.now.translation.now.plan task.now.packing task.now.form task.now.rows task.now.step both.first
+        task.now.translation.now.plan task.now.packing task.now.form task.now.rows task.now.step round.first
         writing.old.folder.now writing.old.target.now writing.old.made.now.items }
-    ensures workers { making.new.workers.ghost_name ≡ making.old.workers.ghost_name }
     ensures folder { writing.new.folder.ghost_name ≡ writing.old.folder.ghost_name }
     ensures target { writing.new.target.ghost_name ≡ writing.old.target.ghost_name }
     ensures made { writing.new.made.ghost_name ≡ writing.old.made.ghost_name }
     ensures writes { writing.new.writes.ghost_name ≡ writing.old.writes.ghost_name }
     ensures answer { writing.new.answer.ghost_name ≡ writing.old.answer.ghost_name }
     ensures done { WereDone F.Folder S.told S.cat task.now.translation.now.cat task.now.translation.now.id
-        task.now.translation.now.plan task.now.packing task.now.form task.now.rows task.now.step both.next
-        (length making.old.workers.now.items) making.new.workers.now.items }
+        task.now.translation.now.plan task.now.packing task.now.form task.now.rows task.now.step round.next
+        (length workers.old.items) workers.new.items }
     ensures put { WerePut F.Folder S.told task.now.translation.now.cat task.now.translation.now.id
-        task.now.translation.now.plan task.now.packing task.now.rows both.first writing.old.folder.now
+        task.now.translation.now.plan task.now.packing task.now.rows round.first writing.old.folder.now
         writing.new.folder.now writing.old.target.now writing.new.target.now writing.old.made.now.items
         writing.new.made.now.items writing.new.answer.now }
 {
-    let Both { first, next } = both;
+    let Round { first, next } = round;
     let write = |half: &mut Writing<F, W>|
         requires { IsSync S.row × IsSend S.row × IsSend F.row × IsSend F.File.row × IsSend F.Draft.row ×
             IsSend W.row × MayPut F.Folder S.told task.now.translation.now.cat task.now.translation.now.id
@@ -141,25 +133,17 @@ fn do_both<'a, 'b, R: Threads + Sync, F: Folder, W: Ledger + Send, S: Scene>(
     {
         write_last::<F, W, S>(task, first, half);
     };
-    let make = |half: &mut Making<F>|
+    let make = |half: &mut Vec<Worker<F>>|
         requires { IsSync R.row × MayMake F.Folder S.told S.cat task.now.translation.now.cat
             task.now.translation.now.id task.now.translation.now.plan task.now.packing task.now.form task.now.rows
-            task.now.step half.old.workers.now.items }
-        ensures { (half.new.workers.ghost_name ≡ half.old.workers.ghost_name) ×
-            WereDone F.Folder S.told S.cat task.entry.now.translation.now.cat task.entry.now.translation.now.id
+            task.now.step half.old.items }
+        ensures { WereDone F.Folder S.told S.cat task.entry.now.translation.now.cat task.entry.now.translation.now.id
             task.entry.now.translation.now.plan task.entry.now.packing task.entry.now.form task.entry.now.rows
-            task.entry.now.step next (length half.old.workers.now.items) half.new.workers.now.items }
+            task.entry.now.step next (length half.old.items) half.new.items }
     {
         make_next::<R, F, S>(rt, task, next, half);
     };
-    at_once(rt, &write, writing, &make, making);
-}
-
-// Who makes.
-fn who_makes<'x, F: Folder>(workers: &'x mut Vec<Worker<F>>) -> Making<'x, F>
-    ensures workers { result.workers ≡ workers.entry }
-{
-    Making { workers }
+    at_once(rt, &write, writing, &make, workers);
 }
 
 // Who writes where.
@@ -263,7 +247,7 @@ fn write_and_make<R: Threads + Sync, F: Folder, W: Ledger + Send, S: Scene>(
     task: &Task<S>,
     folder: &mut F,
     target: &mut Target<F>,
-    both: Both,
+    round: Round,
     crew: &mut Crew<F>,
     writes: &mut Counter<W>,
 ) -> Result<(), Fault>
@@ -271,19 +255,18 @@ fn write_and_make<R: Threads + Sync, F: Folder, W: Ledger + Send, S: Scene>(
         task.now.translation.now.plan task.now.packing task.now.form task.now.rows task.now.step
         crew.old.workers.items }
     requires may_put { MayPut F.Folder S.told task.now.translation.now.cat task.now.translation.now.id
-        task.now.translation.now.plan task.now.packing task.now.form task.now.rows task.now.step both.first
+        task.now.translation.now.plan task.now.packing task.now.form task.now.rows task.now.step round.first
         folder.old target.old crew.old.made.items }
     ensures done { WereDone F.Folder S.told S.cat task.now.translation.now.cat task.now.translation.now.id
-        task.now.translation.now.plan task.now.packing task.now.form task.now.rows task.now.step both.next
+        task.now.translation.now.plan task.now.packing task.now.form task.now.rows task.now.step round.next
         (length crew.old.workers.items) crew.new.workers.items }
     ensures put { WerePut F.Folder S.told task.now.translation.now.cat task.now.translation.now.id
-        task.now.translation.now.plan task.now.packing task.now.rows both.first folder.old folder.new target.old
+        task.now.translation.now.plan task.now.packing task.now.rows round.first folder.old folder.new target.old
         target.new crew.old.made.items crew.new.made.items result }
 {
     let mut written = Ok(());
     let mut writing = who_writes(folder, target, &mut crew.made, writes, &mut written);
-    let mut making = who_makes(&mut crew.workers);
-    do_both(rt, task, both, &mut writing, &mut making);
+    do_both(rt, task, round, &mut writing, &mut crew.workers);
     written
 }
 
@@ -293,7 +276,7 @@ fn copy_round<R: Threads + Sync, F: Folder, W: Ledger + Send, S: Scene>(
     task: &Task<S>,
     folder: &mut F,
     target: &mut Target<F>,
-    both: Both,
+    round: Round,
     crew: &mut Crew<F>,
     writes: &mut Counter<W>,
 ) -> Result<(), Fault>
@@ -301,7 +284,7 @@ fn copy_round<R: Threads + Sync, F: Folder, W: Ledger + Send, S: Scene>(
         task.now.translation.now.plan task.now.packing task.now.form task.now.rows task.now.step
         crew.old.workers.items }
     requires may_put { MayPut F.Folder S.told task.now.translation.now.cat task.now.translation.now.id
-        task.now.translation.now.plan task.now.packing task.now.form task.now.rows task.now.step both.first
+        task.now.translation.now.plan task.now.packing task.now.form task.now.rows task.now.step round.first
         folder.old target.old crew.old.made.items }
     requires count { length crew.old.made.items ≡ length crew.old.workers.items }
     ensures count { OnOk result (length crew.new.workers.items ≡ length crew.old.workers.items) }
@@ -309,10 +292,10 @@ fn copy_round<R: Threads + Sync, F: Folder, W: Ledger + Send, S: Scene>(
     ensures written { OnOk result (AreBlocksWritten (F.names folder.new) task.now.translation.now.cat
         task.now.translation.now.id task.now.translation.now.plan task.now.packing
         (cut_of task.now.packing).by_columns target.new
-        (top_of (cut_of task.now.packing).blocks task.now.rows both.first (length crew.old.made.items))) }
+        (top_of (cut_of task.now.packing).blocks task.now.rows round.first (length crew.old.made.items))) }
     ensures empty { target.new.pool.entries ≡ [] }
     ensures made { OnOk result (WereMade S.told task.now.translation.now.cat task.now.translation.now.id
-        task.now.translation.now.plan task.now.packing task.now.rows both.next crew.new.made.items) }
+        task.now.translation.now.plan task.now.packing task.now.rows round.next crew.new.made.items) }
     ensures answers { OnOk result (MayTell S.told (F.faults folder.old) (F.faults folder.new) crew.new.made.items) }
     ensures workers { OnOk result (All (IsWorker F.Folder S.told S.cat task.now.translation.now.cat
         task.now.translation.now.id task.now.translation.now.plan task.now.packing task.now.form task.now.rows
@@ -325,8 +308,8 @@ fn copy_round<R: Threads + Sync, F: Folder, W: Ledger + Send, S: Scene>(
         MayEnd (F.names folder.old) before (F.faults folder.new) 0 0 result }
     ensures changed { IfErr result (TellsChange task.now.translation.now.cat) }
 {
-    write_and_make(rt, task, folder, target, both, crew, writes)?;
-    take_made(task, folder, both.next, crew)
+    write_and_make(rt, task, folder, target, round, crew, writes)?;
+    take_made(task, folder, round.next, crew)
 }
 
 // The end of the blocks from one on that so many workers make.
@@ -349,6 +332,8 @@ pub fn has_others<S: Scene>(task: &Task<S>, count: usize) -> bool
     requires few { count ≤ most_workers }
     ensures others { top_of (cut_of task.now.packing).blocks task.now.rows 0 count < (cut_of task.now.packing).blocks →
         result ≡ true }
+    ensures none { (cut_of task.now.packing).blocks ≤ top_of (cut_of task.now.packing).blocks task.now.rows 0 count →
+        result ≡ false }
 {
     end_of(task, 0, count) < extent_of(task)
 }
@@ -400,7 +385,8 @@ pub fn copy_packed<R: Threads + Sync, F: Folder, O: Sink, W: Ledger + Send, S: S
     let mut first = 0;
     let mut next = end_of(task, 0, count);
     while next < height {
-        copy_round(rt, task, folder, target, Both { first, next }, crew, writes)?;
+        let round = Round { first, next };
+        copy_round(rt, task, folder, target, round, crew, writes)?;
         told = tell(out, quiet, told, Share { done: next, height })?;
         first = next;
         next = end_of(task, first, count);

@@ -5,4 +5,4 @@ mod names;
 mod publishing;
 
 pub use names::unless_own;
-pub use publishing::publish_document;
+pub use publishing::{publish_document, write_fault};

@@ -12,8 +12,8 @@ use std::alloc::{AllocError, Global};
 use vrt_profile::Document;
 use vrt_writing::write;
 
-// A fault of writing as that of the run.
-fn write_fault(fault: WriteFault) -> Fault
+/// A fault of writing as that of the run.
+pub fn write_fault(fault: WriteFault) -> Fault
     ensures folder { result ≡ Fault.FolderFault → fault ≡ WriteFault.Failed }
     ensures failed { fault ≡ WriteFault.Failed → result ≡ Fault.FolderFault }
     ensures outside { IsOfFolder result }

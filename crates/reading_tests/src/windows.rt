@@ -210,25 +210,32 @@ fn failing<R: Abort>(rt: &R, alloc: Global, call: u64) -> MemFolder {
     folder_of(rt, alloc, call, files())
 }
 
-// What comes of reads with so many blocks where the call of the folder of this number fails.
-fn read_failing<R: Abort>(rt: &R, alloc: Global, capacity: u32, call: u64) -> Reading {
+// What comes of reads with so many blocks where the call of the folder of this number fails; None where fewer are made.
+fn read_failing<R: Abort>(rt: &R, alloc: Global, capacity: u32, call: u64) -> Option<Reading> {
     let mut folder = failing(rt, alloc, call);
-    read_twice(rt, alloc, &mut folder, &OUTERMOST, capacity)
+    let reading = read_twice(rt, alloc, &mut folder, &OUTERMOST, capacity);
+    if folder.faults() == 0 && reading == Reading::Right {
+        return None;
+    }
+    Some(reading)
 }
 
-// How many calls of the folder fail at the first read, where each of 29 fails in turn; None where one refuses the walk
-// behind such a call, or a read is wrong.
+// More calls than the walk and the reads make.
+const TOO_MANY_CALLS: u64 = 1_000;
+
+// How many calls of the folder fail at the first read, where each fails in turn until none does; None where one refuses
+// the walk behind such a call, or a read is wrong.
 fn failed_reads<R: Abort>(rt: &R, alloc: Global, capacity: u32) -> Option<u64> {
     let mut failed = 0u64;
-    for call in 1..30 {
+    for call in 1..TOO_MANY_CALLS {
         match read_failing(rt, alloc, capacity, call) {
-            Reading::Right => {}
-            Reading::Failed => failed = failed.saturating_add(1),
-            Reading::NoWalk if failed == 0 => {}
-            _ => return None,
+            None => return Some(failed),
+            Some(Reading::Failed) => failed = failed.saturating_add(1),
+            Some(Reading::NoWalk) if failed == 0 => {}
+            Some(_) => return None,
         }
     }
-    Some(failed)
+    None
 }
 
 // Each call of the folder fails in turn. The walk makes the first of them and refuses then; the window

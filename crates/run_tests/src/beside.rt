@@ -49,7 +49,7 @@ fn folder<R: Abort>(rt: &R, alloc: Global) -> MemFolder {
 
 // A raster in which these bytes come so often that each of two workers makes half of its lines; of an output in which
 // bands lie pixel by pixel (BIP) each reads half of each of two strips, and the second strip is read while the first
-// one is written. And a mosaic of it.
+// one is written. And a mosaic of it, and one of that.
 const TIMES: usize = 16_384;
 
 const WIDE: &[u8] = b"NROWS 128\nNCOLS 32768\n";
@@ -58,11 +58,16 @@ const OVER_WIDE: &[u8] =
     b"<VRTDataset rasterXSize='32768' rasterYSize='128'><VRTRasterBand dataType='Byte'>
 <SimpleSource><SourceFilename>wide.bil</SourceFilename></SimpleSource></VRTRasterBand></VRTDataset>";
 
+const OVER_MOSAIC: &[u8] =
+    b"<VRTDataset rasterXSize='32768' rasterYSize='128'><VRTRasterBand dataType='Byte'>
+<SimpleSource><SourceFilename>wide.vrt</SourceFilename></SimpleSource></VRTRasterBand></VRTDataset>";
+
 fn wide_folder<R: Abort>(rt: &R, alloc: Global, bytes: &[u8]) -> MemFolder {
-    let files: [FileOf<'_>; 3] = [
+    let files: [FileOf<'_>; 4] = [
         ("wide.bil", bytes),
         ("wide.hdr", WIDE),
         ("wide.vrt", OVER_WIDE),
+        ("nested.vrt", OVER_MOSAIC),
     ];
     folder_of(rt, alloc, &files, &[])
 }
@@ -115,9 +120,9 @@ fn two_workers_read_beside_each_other(rt: HostRuntime) {
     assert!(rt; is_copied(&rt, rt.alloc(), &WOVEN, "out.bip"));
 }
 
-// The wide lines by some workers, and the same through the mosaic. Those of the last three files are read in strips; of
-// the first of these each of sixteen workers reads eight lines.
-static WIDE_NUMBERS: [Row<'static>; 10] = [
+// The wide lines by some workers, and the same through the mosaics. Each of sixteen workers reads eight lines of the
+// strip of `h.bil`; those of `i.bip`, `j.bip` and `l.bip` are read in strips too.
+static WIDE_NUMBERS: [Row<'static>; 12] = [
     ("gdal_translate -q --workers 1 wide.bil a.bil", 0, "", ""),
     ("gdal_translate -q --workers 2 wide.bil b.bil", 0, "", ""),
     ("gdal_translate -q --workers 4 wide.bil c.bil", 0, "", ""),
@@ -128,13 +133,15 @@ static WIDE_NUMBERS: [Row<'static>; 10] = [
     ("gdal_translate -q --workers 16 wide.vrt h.bil", 0, "", ""),
     ("gdal_translate -q --workers 4 wide.bil i.bip", 0, "", ""),
     ("gdal_translate -q --workers 3 wide.vrt j.bip", 0, "", ""),
+    ("gdal_translate -q --workers 4 nested.vrt k.bil", 0, "", ""),
+    ("gdal_translate -q --workers 2 nested.vrt l.bip", 0, "", ""),
 ];
 
 // Whether each of these numbers of workers copies the same lines.
 fn are_alike_wide<R: Threads + Sync + Abort>(rt: &R, alloc: Global) -> bool {
     let bytes = joined(rt, alloc, &[(samples(), TIMES)]);
     let bytes = bytes.as_slice();
-    let copies: [FileOf<'_>; 10] = [
+    let copies: [FileOf<'_>; 12] = [
         ("a.bil", bytes),
         ("b.bil", bytes),
         ("c.bil", bytes),
@@ -145,6 +152,8 @@ fn are_alike_wide<R: Threads + Sync + Abort>(rt: &R, alloc: Global) -> bool {
         ("h.bil", bytes),
         ("i.bip", bytes),
         ("j.bip", bytes),
+        ("k.bil", bytes),
+        ("l.bip", bytes),
     ];
     let mut folder = wide_folder(rt, alloc, bytes);
     says_all(rt, alloc, &mut folder, &WIDE_NUMBERS) && has_all(rt, alloc, &folder, &copies)
@@ -290,9 +299,9 @@ fn some_workers_over_columns(rt: HostRuntime) {
     assert!(rt; are_large_tiles_again(&rt, rt.alloc()));
 }
 
-// Lines of which each of two workers makes seventeen at a time, so that all are made in two rounds, the second while the
-// first is written. Of an output in which bands lie pixel by pixel (BIP) a strip of sixty-four has two million samples:
-// two workers read it beside each other, and the last line is read while those before it are written.
+// Lines of which each of two workers makes seventeen at a time, so that all are made in two rounds, the second while
+// the first is written. Of an output in which bands lie pixel by pixel (BIP) a strip of sixty-four has two million
+// samples: two workers read it beside each other, and the last line is read while those before it are written.
 const LONG: &[u8] = b"NROWS 65\nNCOLS 32768\n";
 
 const LONG_TIMES: usize = 8_320;

@@ -8,19 +8,8 @@ ghost use Rattle.synthetic_files.specs.Publishing.{ArePublished};
 
 use error_lines::Fault;
 use outside::{Folder, Name, WriteFault};
+use published_files::write_fault;
 use synthetic_rasters::{TileLine, TileSide};
-
-/// A fault of writing as that of the run.
-pub fn write_fault(fault: WriteFault) -> Fault
-    ensures folder { result ≡ Fault.FolderFault → fault ≡ WriteFault.Failed }
-    ensures failed { fault ≡ WriteFault.Failed → result ≡ Fault.FolderFault }
-    ensures outside { IsOfFolder result }
-{
-    match fault {
-        WriteFault::Failed => Fault::FolderFault,
-        WriteFault::Memory => Fault::Memory,
-    }
-}
 
 // Adds the lines of a tile to a draft that is empty.
 #[tactic(auto, unfolding(synthetic_rasters::specs::Tiles::tile_data))]

@@ -9,10 +9,11 @@ ghost use Rattle.published_files.specs.Documents.{IsOfFolder};
 ghost use Rattle.synthetic_rasters.specs.Tiles.{tile_data, tile_head, tile_files, tiles_files};
 ghost use Rattle.synthetic_files.specs.Publishing.{ArePublished};
 
-use crate::drafts::{data_draft, publish_draft, text_draft, write_fault};
+use crate::drafts::{data_draft, publish_draft, text_draft};
 use error_lines::Fault;
 use esri_hdr::write;
 use outside::{Folder, Name};
+use published_files::write_fault;
 use std::alloc::{AllocError, Global};
 use synthetic_rasters::{TileLine, TileSide, tile_head, tile_name};
 

@@ -50,7 +50,7 @@ returns-clause-written g c =
     let t = c.args.task.now.translation.now in
     let w = c.args.task.now.packing in
     ok_with c.take_made.result _
-    (subst (λ (o : Option Files). AreBlocksWritten o t.cat t.id t.plan w (cut_of w).by_columns c.write_and_make.new.target (top_of (cut_of w).blocks c.args.task.now.rows c.args.both.first (length c.args.crew.now.made.items)))
+    (subst (λ (o : Option Files). AreBlocksWritten o t.cat t.id t.plan w (cut_of w).by_columns c.write_and_make.new.target (top_of (cut_of w).blocks c.args.task.now.rows c.args.round.first (length c.args.crew.now.made.items)))
     (sym c.take_made.ensures.names) c.in_ok-write_and_make.ensures.put.written)
 
 pub returns-clause-answers : goal.returns-clause-answers
